@@ -1,0 +1,4 @@
+pub mod Content
+pub mod Layout
+pub mod WellFormed
+pub mod Answers

@@ -1,0 +1,79 @@
+-- Which lists of words are a table, over the member limit L. Assumes nothing.
+use mathlib.Core.Path.{_≡_}
+use mathlib.Core.Bool.{Bool, true}
+use mathlib.Core.List.{List}
+use Prim.Native.Nat.{ℕ, _+_, _*_, _-_, _≤_, _<_}
+use lib.Dec.{leb, ltb, eqb}
+use lib.ListN.{length, getD, take, drop}
+use Rattle.lists.specs.Tests.{_and_, every}
+use Rattle.lists.specs.Lists.{all, zeros, tab, Ascending}
+use Rattle.layout.specs.Content.{Hyperedge, Table, valid}
+use Rattle.layout.specs.Layout.{vertexLimit, hyperedgeLimit, vertexSize, recordSize, verticesAt, hyperedgesAt, size, vertexWord, hyperedgeWord, nextVertexIn, nextHyperedgeIn, vertexCount, hyperedgeCount, countAt, read}
+
+-- a used hyperedge record: count (1 to L), and every word after the members is 0
+unfoldable pub recordShaped : ℕ → List ℕ → ℕ → Bool
+recordShaped L ws j =
+    ltb 0 (countAt L ws j)
+    and leb (countAt L ws j) L
+    and zeros (take (L - countAt L ws j) (drop (hyperedgeWord L j + 3 + countAt L ws j) ws))
+
+-- every word of an unused record is 0
+unfoldable pub unusedVertices : List ℕ → Bool
+unusedVertices ws = zeros (take (hyperedgesAt - vertexWord (vertexCount ws)) (drop (vertexWord (vertexCount ws)) ws))
+
+unfoldable pub unusedHyperedges : ℕ → List ℕ → Bool
+unusedHyperedges L ws = zeros (drop (hyperedgeWord L (hyperedgeCount ws)) ws)
+
+-- the rules that speak of the words: the length, n (at most 256), m (at most 192), and every unused word is 0
+unfoldable pub shaped : ℕ → List ℕ → Bool
+shaped L ws =
+    eqb (length ws) (size L)
+    and leb (vertexCount ws) vertexLimit
+    and leb (hyperedgeCount ws) hyperedgeLimit
+    and unusedVertices ws
+    and unusedHyperedges L ws
+    and every (recordShaped L ws) (hyperedgeCount ws)
+
+unfoldable pub wellFormed : ℕ → List ℕ → Bool
+wellFormed L ws = shaped L ws and valid (read L ws)
+
+-- ---- which content a table can hold
+
+-- count (1 to L)
+unfoldable pub counted : ℕ → Hyperedge → Bool
+counted L e = ltb 0 (length (e .members)) and leb (length (e .members)) L
+
+unfoldable pub holdable : ℕ → Table → Bool
+holdable L t =
+    leb (length (t .vertices)) vertexLimit
+    and leb (length (t .hyperedges)) hyperedgeLimit
+    and all (counted L) (t .hyperedges)
+    and valid t
+
+-- ---- what the tests say, for those who work on the words
+
+pub record Shaped (L : ℕ) (ws : List ℕ) : Type 0 where
+  pub sized : length ws ≡ size L
+  pub vertices-le : vertexCount ws ≤ vertexLimit
+  pub hyperedges-le : hyperedgeCount ws ≤ hyperedgeLimit
+  pub vertices-rest : unusedVertices ws ≡ true
+  pub hyperedges-rest : unusedHyperedges L ws ≡ true
+  pub records : every (recordShaped L ws) (hyperedgeCount ws) ≡ true
+
+-- the words at base, base + step, .., n of them
+abbrev pub column : List ℕ → ℕ → ℕ → ℕ → List ℕ
+column ws base step n = tab (λ i. getD ws (base + i * step) 0) n
+
+abbrev pub vertexColumn : List ℕ → List ℕ
+vertexColumn ws = column ws verticesAt vertexSize (vertexCount ws)
+
+abbrev pub hyperedgeColumn : ℕ → List ℕ → List ℕ
+hyperedgeColumn L ws = column ws hyperedgesAt (recordSize L) (hyperedgeCount ws)
+
+pub record Formed (L : ℕ) (ws : List ℕ) : Type 0 where
+  pub shape : Shaped L ws
+  pub counts : (j : ℕ) → j < hyperedgeCount ws → countAt L ws j ≤ L
+  pub vertices-ascend : Ascending (vertexColumn ws)
+  pub hyperedges-ascend : Ascending (hyperedgeColumn L ws)
+  pub vertices-below : (i : ℕ) → i < vertexCount ws → getD ws (vertexWord i) 0 < nextVertexIn ws
+  pub content : valid (read L ws) ≡ true

@@ -1,0 +1,227 @@
+// The table's words: their layout, what is read from them, the two kinds of number, and what an entry point answers.
+ghost use mathlib.Core.Path.{_≡_};
+ghost use Prim.Native.Nat.{ℕ, _+_, _*_, _<_, _≤_};
+ghost use lib.ListN.{length, getD};
+ghost use Rattle.lists.specs.Lists.{Ascending};
+ghost use Rattle.layout.specs.Content.{Vertex, Hyperedge, liveVertices, liveHyperedges, position};
+ghost use Rattle.layout.specs.Layout.{limit, vertexLimit, hyperedgeLimit, size, nextVertexIn, nextHyperedgeIn, vertexCount, hyperedgeCount, vertexAt, hyperedgeAt, countAt, membersAt, read};
+ghost use Rattle.layout.specs.WellFormed.{column, Formed};
+ghost use Rattle.layout.specs.Answers.{firstMissing};
+
+// The limits.
+pub const VERTEX_LIMIT: usize = 256;
+
+pub const HYPEREDGE_LIMIT: usize = 192;
+
+pub const MEMBER_LIMIT: usize = 32;
+
+// The words of a record, where the records of each kind begin, and the words of a table.
+pub const VERTEX_SIZE: usize = 2;
+
+pub const RECORD_SIZE: usize = 3 + MEMBER_LIMIT;
+
+pub const VERTICES_AT: usize = 4;
+
+pub const HYPEREDGES_AT: usize = VERTICES_AT + VERTEX_LIMIT * VERTEX_SIZE;
+
+pub const SIZE: usize = HYPEREDGES_AT + HYPEREDGE_LIMIT * RECORD_SIZE;
+
+// The two kinds of number.
+#[repr(C)]
+pub struct VertexIndex(pub u32);
+
+#[repr(C)]
+pub struct HyperedgeIndex(pub u32);
+
+// What an entry point answers: a case for each row of the table of answer numbers, in its order.
+pub enum Answer {
+    Done(usize),
+    NotWellFormed,
+    NoMembers(u32),
+    VertexNotLive(VertexIndex),
+    HyperedgeNotLive(HyperedgeIndex),
+    SameMembers(HyperedgeIndex),
+    TooManyMembers(usize),
+    Full,
+    NumbersSpent,
+    ClosedWalk,
+    TooFewHyperedges,
+    NoRoom(usize),
+    BadText(usize),
+}
+
+// What a search finds: a place, counted from 0.
+pub enum Found {
+    At(usize),
+    Nothing,
+}
+
+fn wide(x: u32) -> usize
+    ensures { λ r. ⌜ r ≡ x ⌝ }
+{
+    x as usize
+}
+
+pub fn next_vertex(t: &[u32]) -> u32
+    requires { ⌜ length (now t) ≡ size limit ⌝ }
+    ensures { λ r. ⌜ r ≡ nextVertexIn (now (t .entry)) ⌝ }
+{
+    t[0]
+}
+
+pub fn next_hyperedge(t: &[u32]) -> u32
+    requires { ⌜ length (now t) ≡ size limit ⌝ }
+    ensures { λ r. ⌜ r ≡ nextHyperedgeIn (now (t .entry)) ⌝ }
+{
+    t[1]
+}
+
+pub fn vertex_count(t: &[u32]) -> usize
+    requires { ⌜ length (now t) ≡ size limit ⌝ }
+    ensures { λ r. ⌜ r ≡ vertexCount (now (t .entry)) ⌝ }
+{
+    wide(t[2])
+}
+
+pub fn hyperedge_count(t: &[u32]) -> usize
+    requires { ⌜ length (now t) ≡ size limit ⌝ }
+    ensures { λ r. ⌜ r ≡ hyperedgeCount (now (t .entry)) ⌝ }
+{
+    wide(t[3])
+}
+
+pub fn vertex_number(t: &[u32], i: usize) -> u32
+    requires { ⌜ (length (now t) ≡ size limit) × (i < vertexLimit) ⌝ }
+    ensures { λ r. ⌜ r ≡ vertexAt (now (t .entry)) i .number ⌝ }
+{
+    t[VERTICES_AT + i * VERTEX_SIZE]
+}
+
+pub fn vertex_weight(t: &[u32], i: usize) -> u32
+    requires { ⌜ (length (now t) ≡ size limit) × (i < vertexLimit) ⌝ }
+    ensures { λ r. ⌜ r ≡ vertexAt (now (t .entry)) i .weight ⌝ }
+{
+    t[VERTICES_AT + i * VERTEX_SIZE + 1]
+}
+
+pub fn hyperedge_number(t: &[u32], j: usize) -> u32
+    requires { ⌜ (length (now t) ≡ size limit) × (j < hyperedgeLimit) ⌝ }
+    ensures { λ r. ⌜ r ≡ hyperedgeAt limit (now (t .entry)) j .number ⌝ }
+{
+    t[HYPEREDGES_AT + j * RECORD_SIZE]
+}
+
+pub fn hyperedge_weight(t: &[u32], j: usize) -> u32
+    requires { ⌜ (length (now t) ≡ size limit) × (j < hyperedgeLimit) ⌝ }
+    ensures { λ r. ⌜ r ≡ hyperedgeAt limit (now (t .entry)) j .weight ⌝ }
+{
+    t[HYPEREDGES_AT + j * RECORD_SIZE + 1]
+}
+
+pub fn member_count(t: &[u32], j: usize) -> usize
+    requires { ⌜ (length (now t) ≡ size limit) × (j < hyperedgeLimit) ⌝ }
+    ensures { λ r. ⌜ r ≡ countAt limit (now (t .entry)) j ⌝ }
+{
+    wide(t[HYPEREDGES_AT + j * RECORD_SIZE + 2])
+}
+
+// The members of a record: a part of the table, where they lie.
+pub fn members(t: &[u32], j: usize) -> &[u32]
+    requires { ⌜ (length (now t) ≡ size limit) × ((j < hyperedgeLimit) × (countAt limit (now t) j ≤ limit)) ⌝ }
+    ensures { λ r. ⌜ now r ≡ membersAt limit (now (t .entry)) j ⌝ }
+{
+    let n = member_count(t, j);
+    let a = HYPEREDGES_AT + j * RECORD_SIZE + 3;
+    let e = a + n;
+    &t[a..e]
+}
+
+// The members of a live hyperedge.
+pub fn members_formed(t: &[u32], j: usize) -> &[u32]
+    requires { ⌜ Formed limit (now t) ⌝ }
+    requires { ⌜ j < hyperedgeCount (now t) ⌝ }
+    ensures { λ r. ⌜ now r ≡ membersAt limit (now (t .entry)) j ⌝ }
+{
+    members(t, j)
+}
+
+// Where x stands among the n ascending words at base, base + step, ..
+pub fn find_number(t: &[u32], base: usize, step: usize, n: usize, x: u32) -> Found
+    requires { ⌜ base + n * step ≤ length (now t) ⌝ }
+    requires { ⌜ 0 < step ⌝ }
+    requires { ⌜ Ascending (column (now t) base step n) ⌝ }
+    ensures { λ r. ⌜ r ≡ position x (column (now (t .entry)) base step n) ⌝ }
+{
+    let mut lo = 0;
+    let mut hi = n;
+    while lo < hi {
+        let mid = lo + (hi - lo) / 2;
+        let y = t[base + mid * step];
+        if y == x {
+            return Found::At(mid);
+        }
+        if y < x {
+            lo = mid + 1;
+        } else {
+            hi = mid;
+        }
+    }
+    Found::Nothing
+}
+
+// Where the vertex stands among the live ones. Where as many are live as numbers were given, its number is its place.
+pub fn find_vertex(t: &[u32], v: VertexIndex) -> Found
+    requires { ⌜ Formed limit (now t) ⌝ }
+    ensures { λ r. ⌜ r ≡ position (v .0) (liveVertices (read limit (now (t .entry)))) ⌝ }
+{
+    let n = vertex_count(t);
+    let x = wide(v.0);
+    if wide(t[0]) != n {
+        return find_number(t, VERTICES_AT, VERTEX_SIZE, n, v.0);
+    }
+    if x < n {
+        return Found::At(x);
+    }
+    Found::Nothing
+}
+
+// Where the hyperedge stands among the live ones.
+pub fn find_hyperedge(t: &[u32], e: HyperedgeIndex) -> Found
+    requires { ⌜ Formed limit (now t) ⌝ }
+    ensures { λ r. ⌜ r ≡ position (e .0) (liveHyperedges (read limit (now (t .entry)))) ⌝ }
+{
+    let m = hyperedge_count(t);
+    find_number(t, HYPEREDGES_AT, RECORD_SIZE, m, e.0)
+}
+
+// The place of the first of the list that is no live vertex.
+pub fn first_missing_vertex(t: &[u32], list: &[u32]) -> Found
+    requires { ⌜ Formed limit (now t) ⌝ }
+    ensures { λ r. ⌜ r ≡ firstMissing (liveVertices (read limit (now (t .entry)))) (now (list .entry)) ⌝ }
+{
+    let mut i = 0;
+    while i < list.len() {
+        let f = find_vertex(t, VertexIndex(list[i]));
+        match f {
+            Found::Nothing => return Found::At(i),
+            Found::At(_) => i += 1,
+        }
+    }
+    Found::Nothing
+}
+
+// The place of the first of the list that is no live hyperedge.
+pub fn first_missing_hyperedge(t: &[u32], list: &[u32]) -> Found
+    requires { ⌜ Formed limit (now t) ⌝ }
+    ensures { λ r. ⌜ r ≡ firstMissing (liveHyperedges (read limit (now (t .entry)))) (now (list .entry)) ⌝ }
+{
+    let mut i = 0;
+    while i < list.len() {
+        let f = find_hyperedge(t, HyperedgeIndex(list[i]));
+        match f {
+            Found::Nothing => return Found::At(i),
+            Found::At(_) => i += 1,
+        }
+    }
+    Found::Nothing
+}

@@ -1,0 +1,14 @@
+pub mod Cases
+pub mod Maps
+pub mod Tab
+pub mod All
+pub mod Every
+pub mod Memb
+pub mod Count
+pub mod Chosen
+pub mod Ascend
+pub mod Stride
+pub mod Flat
+pub mod Parts
+pub mod Filter
+pub mod Store

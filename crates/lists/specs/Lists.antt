@@ -1,0 +1,75 @@
+-- Lists: what every other definition is written with. Assumes nothing.
+use mathlib.Core.Path.{_≡_}
+use mathlib.Core.Bool.{Bool, true, false, cond, not, _||_}
+use mathlib.Core.List.{List, [], _∷_, _++_}
+use Prim.Native.Nat.{ℕ, zero, suc, _+_, _-_, _<_}
+use lib.Dec.{eqb, ltb}
+use lib.ListN.{length, getD, take, drop, replicate}
+use Rattle.lists.specs.Tests.{_and_}
+
+-- the test passes at every element
+unfoldable pub all : {A : Type 0} → (A → Bool) → List A → Bool
+all f [] = true
+all f (x ∷ xs) = f x and all f xs
+
+-- every word is 0
+unfoldable pub zeros : List ℕ → Bool
+zeros xs = all (eqb 0) xs
+
+abbrev pub isBelow : ℕ → ℕ → Bool
+isBelow high x = ltb x high
+
+-- x stands in the list
+abbrev pub memb : ℕ → List ℕ → Bool
+memb x [] = false
+memb x (y ∷ ys) = eqb x y || memb x ys
+
+-- those that pass the test, in their order
+unfoldable pub filter : {A : Type 0} → (A → Bool) → List A → List A
+filter p [] = []
+filter p (x ∷ xs) = cond (p x) (x ∷ filter p xs) (filter p xs)
+
+-- what is not k by the key f
+unfoldable pub otherThan : {A : Type 0} → (A → ℕ) → ℕ → A → Bool
+otherThan f k x = not (eqb (f x) k)
+
+-- strictly ascending: each is below all that come after it
+unfoldable pub ascending : List ℕ → Bool
+ascending [] = true
+ascending (x ∷ xs) = all (ltb x) xs and ascending xs
+
+-- the same, by places
+abbrev pub Ascending : List ℕ → Type 0
+Ascending xs = (i j : ℕ) → i < j → j < length xs → getD xs i 0 < getD xs j 0
+
+-- no number twice
+abbrev pub Distinct : List ℕ → Type 0
+Distinct [] = Unit {0}
+Distinct (x ∷ xs) = (memb x xs ≡ false) × Distinct xs
+
+-- every number below n
+abbrev pub Below : ℕ → List ℕ → Type 0
+Below n [] = Unit {0}
+Below n (x ∷ xs) = (x < n) × Below n xs
+
+-- f 0, f 1, .., f (n - 1)
+unfoldable pub tab : {A : Type 0} → (ℕ → A) → ℕ → List A
+tab f zero = []
+tab f (suc n) = let h = f zero in h ∷ tab (λ i. f (suc i)) n
+
+-- records laid one after the other
+unfoldable pub flat : {A : Type 0} → (A → List ℕ) → List A → List ℕ
+flat f [] = []
+flat f (x ∷ xs) = f x ++ flat f xs
+
+-- 0 after xs, up to n words
+abbrev pub pad : ℕ → List ℕ → List ℕ
+pad n xs = xs ++ replicate (n - length xs) 0
+
+-- w written from the front of d, which keeps the rest
+unfoldable pub over : List ℕ → List ℕ → List ℕ
+over w d = w ++ drop (length w) d
+
+-- the k words from a on are gone, what is behind them moves down, and k words of 0 come last
+unfoldable pub shifted : List ℕ → ℕ → ℕ → List ℕ
+shifted ws a k = take a ws ++ (drop (a + k) ws ++ replicate k 0)

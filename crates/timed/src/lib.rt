@@ -1,0 +1,11 @@
+// What `bench/` times besides the entry points, as C functions.
+ghost use mathlib.Core.Path.{_≡_};
+ghost use Rattle.layout.specs.Layout.{limit};
+ghost use Rattle.layout.specs.WellFormed.{wellFormed};
+
+#[no_mangle]
+pub extern "C" fn timed_well_formed(t: &[u32]) -> bool
+    ensures { λ r. ⌜ r ≡ wellFormed limit (now (t .entry)) ⌝ }
+{
+    formed::well_formed(t)
+}
