@@ -2,3 +2,4 @@ pub mod Content
 pub mod Layout
 pub mod WellFormed
 pub mod Answers
+pub mod Steps

@@ -12,6 +12,18 @@ unfoldable pub all : {A : Type 0} → (A → Bool) → List A → Bool
 all f [] = true
 all f (x ∷ xs) = f x and all f xs
 
+-- the test passes at some element
+unfoldable pub any : {A : Type 0} → (A → Bool) → List A → Bool
+any f [] = false
+any f (x ∷ xs) = f x || any f xs
+
+-- the two lists are the same, element by element
+unfoldable pub sameList : List ℕ → List ℕ → Bool
+sameList [] [] = true
+sameList [] (y ∷ ys) = false
+sameList (x ∷ xs) [] = false
+sameList (x ∷ xs) (y ∷ ys) = eqb x y and sameList xs ys
+
 -- every word is 0
 unfoldable pub zeros : List ℕ → Bool
 zeros xs = all (eqb 0) xs

@@ -1,0 +1,64 @@
+-- The edits, as functions on a table's content. Assumes nothing.
+use mathlib.Core.Bool.{Bool, true, false, cond}
+use mathlib.Core.List.{List, [], _∷_, _++_, map}
+use Prim.Native.Nat.{ℕ, _+_}
+use lib.Dec.{eqb, ltb}
+use lib.ListN.{length}
+use Rattle.lists.specs.Lists.{filter, otherThan}
+use Rattle.layout.specs.Content.{Vertex, Hyperedge, Table, vertexNumber, hyperedgeNumber}
+
+-- adding a vertex always makes a new one, with the next number
+unfoldable pub addVertex : ℕ → Table → Table
+addVertex w t = record {
+  nextVertex = t .nextVertex + 1;
+  nextHyperedge = t .nextHyperedge;
+  vertices = t .vertices ++ (record { number = t .nextVertex; weight = w } ∷ []);
+  hyperedges = t .hyperedges;
+}
+
+-- adding a hyperedge likewise
+unfoldable pub addHyperedge : List ℕ → ℕ → Table → Table
+addHyperedge ms w t = record {
+  nextVertex = t .nextVertex;
+  nextHyperedge = t .nextHyperedge + 1;
+  vertices = t .vertices;
+  hyperedges = t .hyperedges ++ (record { number = t .nextHyperedge; weight = w; members = ms } ∷ []);
+}
+
+-- update keeps the weight
+unfoldable pub withMembers : ℕ → List ℕ → Hyperedge → Hyperedge
+withMembers x ms e = cond (eqb (e .number) x) (record { number = e .number; weight = e .weight; members = ms }) e
+
+unfoldable pub updateHyperedge : ℕ → List ℕ → Table → Table
+updateHyperedge x ms t = record {
+  nextVertex = t .nextVertex;
+  nextHyperedge = t .nextHyperedge;
+  vertices = t .vertices;
+  hyperedges = map (withMembers x ms) (t .hyperedges);
+}
+
+-- removing a vertex filters it out of every list and drops lists that held it alone
+abbrev pub itself : ℕ → ℕ
+itself x = x
+
+unfoldable pub without : ℕ → Hyperedge → Hyperedge
+without v e = record { number = e .number; weight = e .weight; members = filter (otherThan itself v) (e .members) }
+
+unfoldable pub hasMembers : Hyperedge → Bool
+hasMembers e = ltb 0 (length (e .members))
+
+unfoldable pub removeVertex : ℕ → Table → Table
+removeVertex v t = record {
+  nextVertex = t .nextVertex;
+  nextHyperedge = t .nextHyperedge;
+  vertices = filter (otherThan vertexNumber v) (t .vertices);
+  hyperedges = filter hasMembers (map (without v) (t .hyperedges));
+}
+
+unfoldable pub removeHyperedge : ℕ → Table → Table
+removeHyperedge x t = record {
+  nextVertex = t .nextVertex;
+  nextHyperedge = t .nextHyperedge;
+  vertices = t .vertices;
+  hyperedges = filter (otherThan hyperedgeNumber x) (t .hyperedges);
+}

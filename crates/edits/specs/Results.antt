@@ -1,0 +1,96 @@
+-- What each edit answers and leaves, in the order of its refusals; 1 comes before all by `onFormed`. Assumes nothing.
+use mathlib.Core.Bool.{Bool, true, false, cond}
+use mathlib.Core.List.{List, [], _∷_}
+use Prim.Native.Nat.{ℕ}
+use lib.Dec.{eqb, leb, ltb}
+use lib.ListN.{length, replicate}
+use Rattle.lists.specs.Tests.{_and_, bit}
+use Rattle.lists.specs.Lists.{sameList}
+use Rattle.layout.specs.declared.Answer.{Answer}
+use Rattle.layout.specs.declared.Answer.the-variants.{Done, NotWellFormed, NoMembers, SameMembers, TooManyMembers, Full, NumbersSpent}
+use Rattle.layout.specs.Content.{Hyperedge, Table}
+use Rattle.layout.specs.Layout.{vertexLimit, hyperedgeLimit, limit, size, words}
+use Rattle.layout.specs.Answers.{Result, result, onLiveVertices, onLiveVertex, onLiveHyperedge}
+use Rattle.edits.specs.Edits.{addVertex, addHyperedge, updateHyperedge, removeVertex, removeHyperedge}
+
+-- the number that is never given
+abbrev pub lastNumber : ℕ
+lastNumber = 4294967295
+
+-- 2: member list empty
+unfoldable pub onSome : List ℕ → ℕ → List ℕ → Result → Result
+onSome ms d lent r = cond (ltb 0 (length ms)) r (result (NoMembers d) lent)
+
+-- 6: member list over the limit
+unfoldable pub onShort : List ℕ → List ℕ → Result → Result
+onShort ms lent r = cond (leb (length ms) limit) r (result (TooManyMembers (length ms)) lent)
+
+-- 7: as many live as the limit
+unfoldable pub onRoom : ℕ → ℕ → List ℕ → Result → Result
+onRoom live most lent r = cond (ltb live most) r (result Full lent)
+
+-- 8: the next number is the one that is never given
+unfoldable pub onNumber : ℕ → List ℕ → Result → Result
+onNumber next lent r = cond (eqb next lastNumber) (result NumbersSpent lent) r
+
+-- the same list and weight
+unfoldable pub identical : List ℕ → ℕ → Hyperedge → Bool
+identical ms w e = sameList ms (e .members) and eqb w (e .weight)
+
+-- an identical hyperedge answers its number, the first of several
+unfoldable pub onNew : List ℕ → ℕ → List Hyperedge → List ℕ → Result → Result
+onNew ms w [] lent r = r
+onNew ms w (e ∷ es) lent r = cond (identical ms w e) (result (Done (e .number)) lent) (onNew ms w es lent r)
+
+-- the members of the hyperedge of number x
+unfoldable pub membersOf : ℕ → List Hyperedge → List ℕ
+membersOf x [] = []
+membersOf x (e ∷ es) = cond (eqb (e .number) x) (e .members) (membersOf x es)
+
+-- 5: new list equals the old
+unfoldable pub onChanged : ℕ → List ℕ → Table → List ℕ → Result → Result
+onChanged x ms t lent r = cond (sameList ms (membersOf x (t .hyperedges))) (result (SameMembers (record { 0 = x })) lent) r
+
+-- add_vertex: 1, 7, 8
+unfoldable pub addVertexResult : ℕ → List ℕ → Table → Result
+addVertexResult w ws t =
+    onRoom (length (t .vertices)) vertexLimit ws
+    (onNumber (t .nextVertex) ws
+    (result (Done (t .nextVertex)) (words limit (addVertex w t))))
+
+-- add_hyperedge: 1, 2, 6, 3, then an identical one, then 7, 8
+unfoldable pub addHyperedgeResult : List ℕ → ℕ → List ℕ → Table → Result
+addHyperedgeResult ms w ws t =
+    onSome ms w ws
+    (onShort ms ws
+    (onLiveVertices t ms ws
+    (onNew ms w (t .hyperedges) ws
+    (onRoom (length (t .hyperedges)) hyperedgeLimit ws
+    (onNumber (t .nextHyperedge) ws
+    (result (Done (t .nextHyperedge)) (words limit (addHyperedge ms w t))))))))
+
+-- update_hyperedge_vertices: 1, 2, 6, 3, 4, 5
+unfoldable pub updateResult : ℕ → List ℕ → List ℕ → Table → Result
+updateResult x ms ws t =
+    onSome ms x ws
+    (onShort ms ws
+    (onLiveVertices t ms ws
+    (onLiveHyperedge t x ws
+    (onChanged x ms t ws
+    (result (Done 0) (words limit (updateHyperedge x ms t)))))))
+
+-- remove_vertex: 1, 3
+unfoldable pub removeVertexResult : ℕ → List ℕ → Table → Result
+removeVertexResult v ws t = onLiveVertex t v ws (result (Done 0) (words limit (removeVertex v t)))
+
+-- remove_hyperedge: 1, 4
+unfoldable pub removeHyperedgeResult : ℕ → List ℕ → Table → Result
+removeHyperedgeResult x ws t = onLiveHyperedge t x ws (result (Done 0) (words limit (removeHyperedge x t)))
+
+-- clear: 1 only for a wrong length; else every word is 0
+unfoldable pub clearResult : List ℕ → Result
+clearResult ws = cond (eqb (length ws) (size limit)) (result (Done 0) (replicate (size limit) 0)) (result NotWellFormed ws)
+
+-- is_empty: no vertex is live
+unfoldable pub emptyResult : Table → Result
+emptyResult t = result (Done (bit (eqb (length (t .vertices)) 0))) []

@@ -1,0 +1,1 @@
+// The edits, a file for each.

@@ -1,0 +1,1 @@
+// Walks along a relation. It has no code of its own.
