@@ -1,11 +1,11 @@
 -- The edits, as functions on a table's content. Assumes nothing.
-use mathlib.Core.Bool.{Bool, true, false, cond}
+use mathlib.Core.Bool.{Bool, cond}
 use mathlib.Core.List.{List, [], _∷_, _++_, map}
 use Prim.Native.Nat.{ℕ, _+_}
 use lib.Dec.{eqb, ltb}
 use lib.ListN.{length}
 use Rattle.lists.specs.Lists.{filter, otherThan}
-use Rattle.layout.specs.Content.{Vertex, Hyperedge, Table, vertexNumber, hyperedgeNumber}
+use Rattle.layout.specs.Content.{Hyperedge, Table, vertexNumber, hyperedgeNumber}
 
 -- adding a vertex always makes a new one, with the next number
 unfoldable pub addVertex : ℕ → Table → Table

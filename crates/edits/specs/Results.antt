@@ -1,12 +1,11 @@
 -- What each edit answers and leaves, in the order of its refusals; 1 comes before all by `onFormed`. Assumes nothing.
-use mathlib.Core.Bool.{Bool, true, false, cond}
+use mathlib.Core.Bool.{Bool, cond}
 use mathlib.Core.List.{List, [], _∷_}
 use Prim.Native.Nat.{ℕ}
 use lib.Dec.{eqb, leb, ltb}
 use lib.ListN.{length, replicate}
 use Rattle.lists.specs.Tests.{_and_, bit}
 use Rattle.lists.specs.Lists.{sameList}
-use Rattle.layout.specs.declared.Answer.{Answer}
 use Rattle.layout.specs.declared.Answer.the-variants.{Done, NotWellFormed, NoMembers, SameMembers, TooManyMembers, Full, NumbersSpent}
 use Rattle.layout.specs.Content.{Hyperedge, Table}
 use Rattle.layout.specs.Layout.{vertexLimit, hyperedgeLimit, limit, size, words}

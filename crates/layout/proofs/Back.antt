@@ -1,5 +1,5 @@
 -- What is read from the words of a content that a table can hold is that content, and the words are well formed. Assumes nothing.
-use mathlib.Core.Path.{_≡_, refl, sym, ap, ap₂, _∙_}
+use mathlib.Core.Path.{_≡_, refl, sym, ap, _∙_}
 use mathlib.Core.Bool.{true}
 use mathlib.Core.List.{List, [], _∷_, _++_}
 use Prim.Native.Nat.{ℕ, _+_, _*_, _-_, _≤_, _<_}
@@ -9,7 +9,7 @@ use lib.ListN.{length, getD, take, drop, length-append, length-drop, List·getD-
 use lib.Seq.{getD-append-add, length-take-le, ext-getD}
 use borrow.Author.Tests.{lt-ltb, le-leb, leb-true, ltb-true}
 use Rattle.lists.specs.Tests.{_and_}
-use Rattle.lists.specs.Lists.{all, flat, pad}
+use Rattle.lists.specs.Lists.{flat, pad}
 use Rattle.lists.proofs.Cases.{and-left, and-right, and-both}
 use Rattle.lists.proofs.All.{all-at, all-of}
 use Rattle.lists.proofs.Tab.{tab-ext, length-tab, getD-tab}
@@ -17,9 +17,9 @@ use Rattle.lists.proofs.Every.{every-of}
 use Rattle.lists.proofs.Stride.{stride}
 use Rattle.lists.proofs.Parts.{part-at, part-tail}
 use Rattle.lists.proofs.Flat.{zero-end, flat-length, flat-at, tab-getD, length-pad, zeros-part-of}
-use Rattle.layout.specs.Content.{Vertex, Hyperedge, Table, valid}
+use Rattle.layout.specs.Content.{Vertex, Hyperedge, Table}
 use Rattle.layout.specs.Layout.{vertexLimit, hyperedgeLimit, vertexSize, recordSize, verticesAt, hyperedgesAt, size, vertexWord, hyperedgeWord, hyperedgeCount, vertexAt, countAt, membersAt, hyperedgeAt, readVertices, readHyperedges, read, vertexWords, hyperedgeWords, words}
-use Rattle.layout.specs.WellFormed.{recordShaped, unusedVertices, unusedHyperedges, shaped, wellFormed, counted, holdable, Shaped}
+use Rattle.layout.specs.WellFormed.{recordShaped, unusedVertices, unusedHyperedges, wellFormed, counted, holdable, Shaped}
 use Rattle.layout.proofs.Shape.{shaped-of, shaped-by, count-le, count-pos}
 use Rattle.layout.proofs.Words.{words-read}
 

@@ -6,3 +6,4 @@ pub mod Words
 pub mod Back
 pub mod Record
 pub mod Answers
+pub mod Sizes

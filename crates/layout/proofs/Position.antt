@@ -1,23 +1,22 @@
 -- What `position` and `firstMissing` find. Assumes nothing.
 use mathlib.Core.Path.{_≡_, refl, sym, ap, _∙_}
-use mathlib.Core.Bool.{Bool, true, false}
+use mathlib.Core.Bool.{true, false}
 use mathlib.Core.List.{List, [], _∷_}
 use Prim.Native.Nat.{ℕ, zero, suc, _+_, _≤_, _<_, suc-le-suc}
 use native.Mathlib.Nat.{not-suc-le-zero, le-of-suc-le-suc, zero-lt-suc, add-zero, zero-add, suc-add, add-suc}
 use native.Mathlib.Numerals.{add-one}
 use native.Mathlib.Omega.{arith}
-use lib.Dec.{eqb}
 use lib.ListN.{length, getD, drop, drop-of-length-le}
 use lib.Seq.{drop-cons}
 use borrow.Author.Tests.{eq-eqb, ne-eqb, lt-ltb, le-ltb}
 use Rattle.lists.specs.Lists.{memb, isBelow, Ascending}
-use Rattle.lists.proofs.Cases.{on, on-same, on-below, clash}
+use Rattle.lists.proofs.Cases.{on, on-same, on-below}
 use Rattle.lists.proofs.Memb.{memb-getD, memb-at}
 use Rattle.lists.proofs.Ascend.{dense-at, ascending-apart}
 use Rattle.layout.specs.declared.Found.{Found}
 use Rattle.layout.specs.declared.Found.the-variants.{At, Nothing}
 use Rattle.layout.specs.Content.{position, positionFrom, isLive}
-use Rattle.layout.specs.Answers.{firstMissing, firstMissingFrom}
+use Rattle.layout.specs.Answers.{firstMissingFrom}
 
 -- ---- from the list to the place
 

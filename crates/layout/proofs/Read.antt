@@ -1,13 +1,12 @@
 -- What reading a table's words gives, in terms of the words. Assumes nothing.
-use mathlib.Core.Path.{_≡_, refl, sym, ap, _∙_}
-use mathlib.Core.Bool.{Bool, true}
+use mathlib.Core.Path.{_≡_, sym, ap, _∙_}
+use mathlib.Core.Bool.{true}
 use mathlib.Core.List.{List}
 use Prim.Native.Nat.{ℕ, _+_, _*_, _≤_, _<_}
 use native.Mathlib.Omega.{arith}
 use lib.ListN.{length, getD, length-take}
 use borrow.Author.Tests.{ltb-true}
-use Rattle.lists.specs.Tests.{_and_}
-use Rattle.lists.specs.Lists.{all, isBelow, Ascending}
+use Rattle.lists.specs.Lists.{isBelow, Ascending}
 use Rattle.lists.proofs.Cases.{and-left, and-right}
 use Rattle.lists.proofs.Tab.{map-tab, length-tab, getD-tab}
 use Rattle.lists.proofs.All.{all-at}
@@ -62,17 +61,17 @@ module _ (L : ℕ) (ws : List ℕ) where
   live-ascends f = rw live-vertices (f .vertices-ascend)
 
   -- where a search found the number, the record has it
+  column-found : (base step n x i : ℕ) → position x (column ws base step n) ≡ At i → (i < n) × (getD ws (base + i * step) 0 ≡ x)
+  column-found base step n x i e =
+      let p = position-found x (column ws base step n) i e in
+      let h : i < n = rw length-tab at (p .0) in
+      (h, sym (getD-tab (λ (k : ℕ). getD ws (base + k * step) 0) n i 0 h) ∙ p .1)
+
   pub vertex-found : (x i : ℕ) → position x (liveVertices (read L ws)) ≡ At i → (i < vertexCount ws) × (getD ws (vertexWord i) 0 ≡ x)
-  vertex-found x i e =
-      let p = position-found x (liveVertices (read L ws)) i e in
-      let h : i < vertexCount ws = rw live-length at (p .0) in
-      (h, sym (live-at i h) ∙ p .1)
+  vertex-found x i e = column-found verticesAt vertexSize (vertexCount ws) x i (sym (ap (position x) live-vertices) ∙ e)
 
   pub hyperedge-found : (x j : ℕ) → position x (liveHyperedges (read L ws)) ≡ At j → (j < hyperedgeCount ws) × (getD ws (hyperedgeWord L j) 0 ≡ x)
-  hyperedge-found x j e =
-      let p = position-found x (hyperedgeColumn L ws) j (sym (ap (position x) live-hyperedges) ∙ e) in
-      let h : j < hyperedgeCount ws = rw length-tab at (p .0) in
-      (h, sym (getD-tab (λ (i : ℕ). getD ws (hyperedgesAt + i * recordSize L) 0) (hyperedgeCount ws) j 0 h) ∙ p .1)
+  hyperedge-found x j e = column-found hyperedgesAt (recordSize L) (hyperedgeCount ws) x j (sym (ap (position x) live-hyperedges) ∙ e)
 
 -- ---- for `search`: n is what `vertex_count` found, m what `hyperedge_count` found
 

@@ -9,7 +9,7 @@ use Rattle.lists.specs.Tests.{_and_, every}
 use Rattle.lists.specs.Lists.{zeros}
 use Rattle.lists.proofs.Cases.{and-left, and-right}
 use Rattle.lists.proofs.Every.{every-at}
-use Rattle.layout.specs.Layout.{hyperedgeWord, hyperedgeCount, countAt}
+use Rattle.layout.specs.Layout.{hyperedgeWord, countAt}
 use Rattle.layout.specs.WellFormed.{recordShaped, shaped, Shaped}
 
 pub shaped-of : (L : ℕ) (ws : List ℕ) → shaped L ws ≡ true → Shaped L ws

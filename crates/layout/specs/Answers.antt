@@ -1,12 +1,10 @@
 -- The paper's number and detail of each answer, and the refusals that many entry points share. Assumes nothing.
-use mathlib.Core.Bool.{Bool, true, false, cond}
+use mathlib.Core.Bool.{cond}
 use mathlib.Core.List.{List, [], _∷_}
 use Prim.Native.Nat.{ℕ, zero, suc}
 use lib.Dec.{leb}
 use lib.ListN.{length}
 use Rattle.lists.specs.Lists.{over}
-use Rattle.layout.specs.declared.VertexIndex.{VertexIndex}
-use Rattle.layout.specs.declared.HyperedgeIndex.{HyperedgeIndex}
 use Rattle.layout.specs.declared.Found.{Found}
 use Rattle.layout.specs.declared.Found.the-variants.{At, Nothing}
 use Rattle.layout.specs.declared.Answer.{Answer}

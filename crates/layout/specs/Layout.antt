@@ -5,7 +5,7 @@ use lib.ListN.{length, getD, take, drop}
 use Rattle.lists.specs.Lists.{tab, flat, pad}
 use Rattle.layout.specs.Content.{Vertex, Hyperedge, Table}
 
--- at most 256 vertices, 192 hyperedges and 32 members are live
+-- at most 256 live vertices and 192 live hyperedges, and the member limit
 abbrev pub vertexLimit : ℕ
 vertexLimit = 256
 
@@ -15,11 +15,11 @@ hyperedgeLimit = 192
 abbrev pub limit : ℕ
 limit = 32
 
--- a vertex record is 2 words: number, weight
+-- a vertex record is of 2 words: number, weight
 abbrev pub vertexSize : ℕ
 vertexSize = 2
 
--- a hyperedge record: number, weight, count, L members
+-- a hyperedge record is of 3 + L words: number, weight, count, L members
 abbrev pub recordSize : ℕ → ℕ
 recordSize L = 3 + L
 
@@ -30,7 +30,7 @@ verticesAt = 4
 abbrev pub hyperedgesAt : ℕ
 hyperedgesAt = verticesAt + vertexLimit * vertexSize
 
--- a table's length
+-- a table is of exactly this many words: words 0 to 3, 256 vertex records, 192 hyperedge records
 abbrev pub size : ℕ → ℕ
 size L = hyperedgesAt + hyperedgeLimit * recordSize L
 
@@ -62,7 +62,7 @@ vertexAt ws i = record { number = getD ws (vertexWord i) 0; weight = getD ws (ve
 abbrev pub countAt : ℕ → List ℕ → ℕ → ℕ
 countAt L ws j = getD ws (hyperedgeWord L j + 2) 0
 
--- a part of the words that starts in their middle
+-- a hyperedge's members: a part of the words that starts in their middle
 abbrev pub membersAt : ℕ → List ℕ → ℕ → List ℕ
 membersAt L ws j = take (countAt L ws j) (drop (hyperedgeWord L j + 3) ws)
 

@@ -8,7 +8,7 @@ use lib.ListN.{length, getD, take, drop}
 use Rattle.lists.specs.Tests.{_and_, every}
 use Rattle.lists.specs.Lists.{all, zeros, tab, Ascending}
 use Rattle.layout.specs.Content.{Hyperedge, Table, valid}
-use Rattle.layout.specs.Layout.{vertexLimit, hyperedgeLimit, vertexSize, recordSize, verticesAt, hyperedgesAt, size, vertexWord, hyperedgeWord, nextVertexIn, nextHyperedgeIn, vertexCount, hyperedgeCount, countAt, read}
+use Rattle.layout.specs.Layout.{vertexLimit, hyperedgeLimit, vertexSize, recordSize, verticesAt, hyperedgesAt, size, vertexWord, hyperedgeWord, nextVertexIn, vertexCount, hyperedgeCount, countAt, read}
 
 -- a used hyperedge record: count (1 to L), and every word after the members is 0
 unfoldable pub recordShaped : ℕ → List ℕ → ℕ → Bool

@@ -26,7 +26,7 @@ pub const HYPEREDGES_AT: usize = VERTICES_AT + VERTEX_LIMIT * VERTEX_SIZE;
 
 pub const SIZE: usize = HYPEREDGES_AT + HYPEREDGE_LIMIT * RECORD_SIZE;
 
-// The two kinds of number.
+// Vertex numbers and hyperedge numbers are separate kinds: neither is accepted where the other is due.
 #[repr(C)]
 pub struct VertexIndex(pub u32);
 

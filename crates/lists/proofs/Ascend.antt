@@ -1,5 +1,5 @@
 -- Laws of strictly ascending lists, and the test that a loop makes of them. Assumes nothing.
-use mathlib.Core.Path.{_≡_, refl, sym, ap, ap₂, _∙_}
+use mathlib.Core.Path.{_≡_, refl, ap}
 use mathlib.Core.Bool.{Bool, true, false}
 use mathlib.Core.List.{List, [], _∷_}
 use Prim.Native.Nat.{ℕ, zero, suc, _+_, _-_, _≤_, _<_, suc-le-suc}
@@ -11,7 +11,7 @@ use lib.ListN.{length, getD, drop, drop-of-length-le}
 use borrow.Author.Tests.{leb-true, ltb-true, le-leb, lt-leb, lt-ltb, le-ltb}
 use Rattle.lists.specs.Tests.{_and_}
 use Rattle.lists.specs.Lists.{all, ascending, Ascending, isBelow, tab}
-use Rattle.lists.proofs.Cases.{and-left, and-right, and-both, on-same, on-below, test-ext}
+use Rattle.lists.proofs.Cases.{and-left, and-right, and-both, on-below, test-ext}
 use Rattle.lists.proofs.All.{all-at, all-of}
 use Rattle.lists.proofs.Tab.{drop-tab, length-tab}
 

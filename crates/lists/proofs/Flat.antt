@@ -1,16 +1,15 @@
 -- Laws of records laid one after the other, and of what pads them. Assumes nothing.
 use mathlib.Core.Path.{_≡_, refl, sym, ap, ap₂, _∙_}
-use mathlib.Core.Bool.{Bool, true, false}
+use mathlib.Core.Bool.{true}
 use mathlib.Core.List.{List, [], _∷_, _++_, append-assoc, append-nil}
 use Prim.Native.Nat.{ℕ, zero, suc, _+_, _*_, _-_, _≤_, _<_, suc-le-suc}
-use native.Mathlib.Nat.{not-suc-le-zero, le-of-suc-le-suc, zero-lt-suc, add-zero, suc-mul, zero-mul, add-comm}
-use native.Mathlib.Numerals.{add-one, add-two}
+use native.Mathlib.Nat.{not-suc-le-zero, le-of-suc-le-suc, zero-lt-suc, suc-mul, zero-mul, add-comm}
 use native.Mathlib.Omega.{arith}
 use lib.Dec.{eqb}
-use lib.ListN.{length, getD, take, drop, replicate, length-append, length-take, length-drop, length-replicate, take-append-drop, List·getD-append}
-use lib.Seq.{take-add, drop-drop, drop-cons, length-take-le, getD-drop, getD-take, getD-append-add}
+use lib.ListN.{length, getD, take, drop, replicate, length-append, length-drop, length-replicate, List·getD-append}
+use lib.Seq.{take-add, drop-drop, length-take-le, getD-drop, getD-take, getD-append-add}
 use borrow.Author.Tests.{eqb-true}
-use Rattle.lists.specs.Lists.{all, zeros, tab, flat, pad}
+use Rattle.lists.specs.Lists.{zeros, tab, flat, pad}
 use Rattle.lists.proofs.Tab.{tab-suc}
 use Rattle.lists.proofs.All.{all-at, all-of, zeros-are}
 
@@ -36,24 +35,6 @@ pad-front l c n h k z =
     let e : n - length (take c l) ≡ length rest = omega (arith, length-take-le c l (omega arith), length-take-le (n - c) (drop c l) (rw length-drop (omega arith))) in
     let f : c + (n - c) ≡ n = omega arith in
     ap (λ (r : List ℕ). take c l ++ r) (ap (λ (m : ℕ). replicate m 0) e ∙ sym (zeros-are rest z)) ∙ sym (take-add c (n - c) l) ∙ ap (λ (m : ℕ). take m l) f
-
-pub take-two : (l : List ℕ) (a : ℕ) → a + 2 ≤ length l → getD l a 0 ∷ getD l (a + 1) 0 ∷ [] ≡ take 2 (drop a l)
-take-two l a h =
-    ap (λ (i : ℕ). getD l a 0 ∷ getD l i 0 ∷ []) (add-one a)
-    ∙ sym (ap (take 2) (drop-cons l a 0 (omega arith)) ∙ ap (λ (r : List ℕ). getD l a 0 ∷ take 1 r) (drop-cons l (suc a) 0 (omega arith)))
-
-pub take-three : (l : List ℕ) (a : ℕ) → a + 3 ≤ length l → getD l a 0 ∷ getD l (a + 1) 0 ∷ getD l (a + 2) 0 ∷ [] ≡ take 3 (drop a l)
-take-three l a h =
-    ap₂ (λ (i j : ℕ). getD l a 0 ∷ getD l i 0 ∷ getD l j 0 ∷ []) (add-one a) (add-two a)
-    ∙ sym (ap (take 3) (drop-cons l a 0 (omega arith)) ∙ ap (λ (r : List ℕ). getD l a 0 ∷ take 2 r) (drop-cons l (suc a) 0 (omega arith))
-    ∙ ap (λ (r : List ℕ). getD l a 0 ∷ getD l (suc a) 0 ∷ take 1 r) (drop-cons l (suc (suc a)) 0 (omega arith)))
-
-pub take-four : (l : List ℕ) → 4 ≤ length l → getD l 0 0 ∷ getD l 1 0 ∷ getD l 2 0 ∷ getD l 3 0 ∷ [] ≡ take 4 l
-take-four [] h = absurd (not-suc-le-zero h)
-take-four (a ∷ []) h = absurd (not-suc-le-zero (le-of-suc-le-suc h))
-take-four (a ∷ b ∷ []) h = absurd (not-suc-le-zero (le-of-suc-le-suc (le-of-suc-le-suc h)))
-take-four (a ∷ b ∷ c ∷ []) h = absurd (not-suc-le-zero (le-of-suc-le-suc (le-of-suc-le-suc (le-of-suc-le-suc h))))
-take-four (a ∷ b ∷ c ∷ d ∷ l) h = refl
 
 -- the words of a part are 0, word by word
 pub zeros-part-at : (ws : List ℕ) (a k : ℕ) → a + k ≤ length ws → zeros (take k (drop a ws)) ≡ true → (p : ℕ) → a ≤ p → p < a + k → getD ws p 0 ≡ 0

@@ -1,12 +1,13 @@
 -- Laws of parts of a slice, as lists. Assumes nothing.
-use mathlib.Core.Path.{_≡_, refl, sym, ap, _∙_}
-use mathlib.Core.List.{List, [], _∷_, _++_, append-nil}
-use Prim.Native.Nat.{ℕ, zero, suc, _+_, _-_, _≤_, _<_}
+use mathlib.Core.Path.{_≡_, sym, ap, _∙_}
+use mathlib.Core.List.{List, _++_, append-nil}
+use Prim.Native.Nat.{ℕ, _+_, _-_, _≤_, _<_}
 use native.Mathlib.Nat.{le-of-eq, add-sub-cancel-left, add-assoc}
 use native.Mathlib.Omega.{arith}
 use lib.ListN.{length, getD, take, drop, replicate, length-drop, length-append, length-replicate, List·getD-append, drop-of-length-le}
 use Rattle.lists.proofs.Flat.{zero-end}
-use Rattle.lists.specs.Lists.{shifted}
+use Rattle.lists.specs.Lists.{tab, shifted}
+use Rattle.lists.proofs.Tab.{length-tab, getD-tab}
 use lib.Seq.{take-all, length-take-le, ext-getD, getD-take, getD-drop, getD-append-add}
 
 -- `&s[a..]`
@@ -29,6 +30,14 @@ part-ext E ws a b k ha hb h =
 -- a word of a part
 pub part-at : (ws : List ℕ) (a k r : ℕ) → r < k → getD (take k (drop a ws)) r 0 ≡ getD ws (a + r) 0
 part-at ws a k r h = getD-take k (drop a ws) r 0 h ∙ getD-drop a ws r 0
+
+-- a part, written out word by word
+pub part-words : (k a : ℕ) (ws : List ℕ) → a + k ≤ length ws → tab (λ i. getD ws (a + i) 0) k ≡ take k (drop a ws)
+part-words k a ws h =
+    let n : length (take k (drop a ws)) ≡ k = length-take-le k (drop a ws) (rw length-drop (omega arith)) in
+    ext-getD 0 (tab (λ i. getD ws (a + i) 0) k) (take k (drop a ws)) (length-tab _ k ∙ sym n) (λ i l.
+    let l′ : i < k = rw length-tab at l in
+    getD-tab (λ (i : ℕ). getD ws (a + i) 0) k i 0 l′ ∙ sym (part-at ws a k i l′))
 
 -- a part of a part
 pub part-part : (ws : List ℕ) (a k r c : ℕ) → r + c ≤ k → a + k ≤ length ws → take c (drop r (take k (drop a ws))) ≡ take c (drop (a + r) ws)

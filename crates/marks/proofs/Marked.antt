@@ -1,8 +1,8 @@
 -- Laws of marks and of the list that they pick. Assumes nothing.
-use mathlib.Core.Path.{_≡_, refl, sym, ap, ap₂, _∙_}
-use mathlib.Core.Bool.{Bool, true, false, cond, _||_}
-use mathlib.Core.List.{List, [], _∷_, _++_, map}
-use Prim.Native.Nat.{ℕ, zero, suc, _+_, _≤_, _<_}
+use mathlib.Core.Path.{_≡_, refl, sym, ap, _∙_}
+use mathlib.Core.Bool.{Bool, true, false, _||_}
+use mathlib.Core.List.{List, map}
+use Prim.Native.Nat.{ℕ, _+_, _≤_, _<_}
 use native.Mathlib.Nat.{le-antisymm}
 use native.Mathlib.Omega.{arith}
 use lib.Dec.{eqb}
@@ -10,11 +10,11 @@ use lib.ListN.{length, getD, set, length-set}
 use lib.Seq.{getD-set-same, getD-set-other}
 use borrow.Author.Tests.{eq-eqb, ne-eqb}
 use Rattle.lists.specs.Tests.{count, chosen}
-use Rattle.lists.specs.Lists.{filter, tab, over, Ascending}
-use Rattle.lists.proofs.Cases.{on, on-same, or-right, or-false}
+use Rattle.lists.specs.Lists.{filter, over, Ascending}
+use Rattle.lists.proofs.Cases.{on-same, or-right, or-false}
 use Rattle.lists.proofs.Maps.{map-length, map-snoc}
 use Rattle.lists.proofs.Count.{count-below, count-in, count-out}
-use Rattle.lists.proofs.Chosen.{chosen-in, chosen-out, chosen-none, chosen-count, over-none, over-more, over-length}
+use Rattle.lists.proofs.Chosen.{chosen-in, chosen-out, chosen-none, chosen-count, over-none, over-more}
 use Rattle.lists.proofs.Filter.{filter-tab}
 use Rattle.lists.proofs.Flat.{tab-getD}
 use Rattle.lists.proofs.Ascend.{ascending-apart}

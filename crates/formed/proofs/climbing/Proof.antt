@@ -1,5 +1,5 @@
 -- `formed::climbing` meets its contract: what is left of the test is the whole of it. Assumes nothing.
-use mathlib.Core.Path.{_≡_, refl, _∙_}
+use mathlib.Core.Path.{_≡_}
 use Prim.Native.Nat.{_≤_, _-_, _+_, _*_}
 use denote.Ref.{now}
 use lib.ListN.{length, drop}

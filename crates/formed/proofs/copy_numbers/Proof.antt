@@ -1,7 +1,6 @@
 -- `formed::copy_numbers` is safe and ends. Assumes nothing.
 use mathlib.Core.Path.{_≡_}
 use Prim.Native.Nat.{_≤_, _-_}
-use native.Mathlib.Omega.{arith}
 use lib.ListN.{length}
 use borrow.Author.Needs.{needs}
 use Rattle.formed.proofs.copy_numbers.Statement.{statement}

@@ -1,10 +1,8 @@
 -- `layout::find_number` meets its contract: what lies outside lo and hi is settled. Assumes nothing.
-use mathlib.Core.Path.{_≡_, refl, _∙_}
 use Prim.Native.Nat.{ℕ, _≤_, _-_, _+_, _*_, _/_}
 use lib.ListN.{length, getD}
 use denote.Ref.{now}
 use Rattle.lists.proofs.Stride.{stride}
-use Rattle.layout.specs.WellFormed.{column}
 use Rattle.layout.proofs.Bracket.{Bracket, bracket-start, bracket-up, bracket-down, bracket-found, bracket-none}
 use native.Mathlib.Omega.{arith}
 use borrow.Author.Needs.{needs}
