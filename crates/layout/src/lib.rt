@@ -6,7 +6,7 @@ ghost use Rattle.lists.specs.Lists.{Ascending};
 ghost use Rattle.layout.specs.Content.{Vertex, Hyperedge, liveVertices, liveHyperedges, position};
 ghost use Rattle.layout.specs.Layout.{limit, vertexLimit, hyperedgeLimit, size, nextVertexIn, nextHyperedgeIn, vertexCount, hyperedgeCount, vertexAt, hyperedgeAt, countAt, membersAt, read};
 ghost use Rattle.layout.specs.WellFormed.{column, Formed};
-ghost use Rattle.layout.specs.Answers.{firstMissing};
+ghost use Rattle.layout.specs.Answers.{number, detail, firstMissing};
 
 // The limits.
 pub const VERTEX_LIMIT: usize = 256;
@@ -48,6 +48,39 @@ pub enum Answer {
     TooFewHyperedges,
     NoRoom(usize),
     BadText(usize),
+}
+
+// The paper's number and detail of an answer.
+#[repr(C)]
+pub struct Reply {
+    pub number: u32,
+    pub detail: u64,
+}
+
+pub fn reply_of(a: Answer) -> Reply
+    ensures { λ r. ⌜ (r .number ≡ number a) × (r .detail ≡ detail a) ⌝ }
+{
+    match a {
+        Answer::Done(d) => reply_with(0, d as u64),
+        Answer::NotWellFormed => reply_with(1, 0),
+        Answer::NoMembers(d) => reply_with(2, d as u64),
+        Answer::VertexNotLive(v) => reply_with(3, v.0 as u64),
+        Answer::HyperedgeNotLive(e) => reply_with(4, e.0 as u64),
+        Answer::SameMembers(e) => reply_with(5, e.0 as u64),
+        Answer::TooManyMembers(k) => reply_with(6, k as u64),
+        Answer::Full => reply_with(7, 0),
+        Answer::NumbersSpent => reply_with(8, 0),
+        Answer::ClosedWalk => reply_with(9, 0),
+        Answer::TooFewHyperedges => reply_with(10, 0),
+        Answer::NoRoom(k) => reply_with(11, k as u64),
+        Answer::BadText(line) => reply_with(12, line as u64),
+    }
+}
+
+fn reply_with(number: u32, detail: u64) -> Reply
+    ensures { λ r. ⌜ (r .number ≡ number) × (r .detail ≡ detail) ⌝ }
+{
+    Reply { number, detail }
 }
 
 // What a search finds: a place, counted from 0.
