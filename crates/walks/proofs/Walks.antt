@@ -15,3 +15,7 @@ reach-keeps P p h (step {y = u} {z = v} w r) = h u v (reach-keeps P p h w) r
 pub reach-through : {R S : ℕ → ℕ → Type 0} {x y : ℕ} → ((u v : ℕ) → R u v → Reach S u v) → Reach R x y → Reach S x y
 reach-through f here = here
 reach-through f (step {y = u} {z = v} w r) = reach-trans (reach-through f w) (f u v r)
+
+pub reach-map : {R S : ℕ → ℕ → Type 0} {x y : ℕ} → ((u v : ℕ) → R u v → S u v) → Reach R x y → Reach S x y
+reach-map f here = here
+reach-map f (step {y = u} {z = v} w r) = step (reach-map f w) (f u v r)

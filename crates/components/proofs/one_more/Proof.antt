@@ -1,0 +1,20 @@
+-- `components::one_more` meets its contract. Assumes nothing.
+use Rattle.lists.specs.Tests.{bit}
+use native.Mathlib.Omega.{arith}
+use mathlib.Core.Path.{ap}
+use borrow.Author.Tests.{eq-eqb, ne-eqb}
+use borrow.Author.Needs.{needs}
+use Rattle.components.proofs.one_more.Statement.{statement}
+use Rattle.components.proofs.one_more.Tie as tie
+
+add-result : tie.Need-add-result
+add-result c = search needs
+
+returns : tie.Need-returns
+returns c = omega (arith, ap bit (eq-eqb _ 1 (c .if1 .taken)))
+
+returns-2 : tie.Need-returns-2
+returns-2 c = omega (arith, ap bit (ne-eqb _ 1 (c .if1 .left)))
+
+pub one-more-spec : {M : Type 1} → statement M
+one-more-spec = tie.close (tie.spec add-result returns returns-2)

@@ -1,0 +1,50 @@
+-- Depth first, largest neighbour first: a number is marked when it is visited, and listed when its steps are tried.
+-- Assumes nothing.
+use mathlib.Core.Path.{_≡_, refl, sym, ap}
+use mathlib.Core.Bool.{Bool, true, false, and-false}
+use mathlib.Core.List.{List}
+use Prim.Native.Nat.{ℕ, suc, _-_, _<_}
+use native.Mathlib.Omega.{arith}
+use lib.Dec.{eqb}
+use lib.ListN.{length, getD, set}
+use lib.Seq.{getD-set-same, getD-set-other}
+use Rattle.lists.proofs.Count.{count-flip}
+use Rattle.depth.specs.Dfs.{St, unmarked, free, mark, finish, tried, tries, visits}
+
+-- one number fewer is not marked
+pub free-mark : (n x : ℕ) (m : List ℕ) → x < n → x < length m → getD m x 0 ≡ 0 → free n m ≡ suc (free n (set m x 1))
+unfolding free
+free-mark n x m l b z =
+    count-flip (unmarked (set m x 1)) (unmarked m) x n l
+    (ap (λ (i : ℕ). eqb i 0) (getD-set-same m x 1 0 b))
+    (ap (λ (i : ℕ). eqb i 0) z)
+    (λ y ne. ap (λ (i : ℕ). eqb i 0) (sym (getD-set-other m x y 1 0 ne)))
+
+module _ (E : ℕ → ℕ → Bool) (v : ℕ → St → St) where
+  pub tried-none : (x k : ℕ) (s : St) → E x k ≡ false → tried E v x k s ≡ s
+  unfolding tried
+  tried-none x k s e = rw e
+
+  pub tried-marked : (x k : ℕ) (s : St) → unmarked (s .marks) k ≡ false → tried E v x k s ≡ s
+  unfolding tried
+  tried-marked x k s e = rw (e, and-false)
+
+  pub tried-new : (x k : ℕ) (s : St) → E x k ≡ true → unmarked (s .marks) k ≡ true → tried E v x k s ≡ v k s
+  unfolding tried
+  tried-new x k s e m = rw (e, m)
+
+  pub tries-step : (x k : ℕ) (s : St) → 0 < k → tries E v x k s ≡ tries E v x (k - 1) (tried E v x (k - 1) s)
+  unfolding tries
+  tries-step x k s l =
+      let e : k ≡ suc (k - 1) = omega arith in
+      ap (λ (i : ℕ). tries E v x i s) e
+
+  pub tries-end : (x : ℕ) (s : St) → tries E v x 0 s ≡ s
+  unfolding tries
+  tries-end x s = refl
+
+pub visits-more : (E : ℕ → ℕ → Bool) (n f x : ℕ) (s : St) → 0 < f → visits E n f x s ≡ finish x (tries E (visits E n (f - 1)) x n (mark x s))
+unfolding visits
+visits-more E n f x s l =
+    let e : f ≡ suc (f - 1) = omega arith in
+    ap (λ (i : ℕ). visits E n i x s) e

@@ -1,0 +1,42 @@
+-- What the loop over the starts holds. Assumes nothing.
+use mathlib.Core.Path.{sym, ap, _∙_}
+use mathlib.Core.Bool.{Bool}
+use mathlib.Core.List.{List}
+use Prim.Native.Nat.{ℕ, _+_, _-_, _≤_, _<_}
+use native.Mathlib.Nat.{sub-zero}
+use native.Mathlib.Omega.{arith}
+use lib.ListN.{replicate, length-replicate}
+use Rattle.depth.proofs.Finish.{sweep-step, sweep-end}
+use Rattle.depth.specs.Dfs.{St, free, unmarked}
+use Rattle.depth.specs.Finish.{start, sweep, finished}
+use Rattle.depth.specs.Went.{st, Went}
+use Rattle.lists.proofs.Count.{count-le}
+use Rattle.depth.specs.Swept.{Swept, Finishes}
+
+pub free-le : (n : ℕ) (m : List ℕ) → free n m ≤ n
+unfolding free
+free-le n m = count-le (unmarked m) n
+
+module _ {E : ℕ → ℕ → Bool} {n : ℕ} where
+  pub swept-first : n ≤ 256 → Swept E n (replicate 256 0) (replicate 256 0) 0 0
+  swept-first b = record {
+    within = omega arith;
+    fit = record { small = b; wide = length-replicate {A = ℕ} 256 0; long = length-replicate {A = ℕ} 256 0; room = omega (arith, free-le n (replicate 256 0)) };
+    is = rw sub-zero;
+  }
+
+  module _ {m o : List ℕ} {t x : ℕ} (h : Swept E n m o t x) where
+    pub swept-more : {m′ o′ : List ℕ} {t′ : ℕ} → x < n → Went (λ f. start E n f x) n m o t m′ o′ t′ → Swept E n m′ o′ t′ (x + 1)
+    swept-more l w = record {
+      within = omega arith;
+      fit = record { small = h .fit .small; wide = w .wide; long = w .long; room = omega (arith, w .same, h .fit .room) };
+      is = ap (sweep E n (n - (x + 1)) (x + 1)) (sym (w .is n (free-le n m))) ∙ sym (sweep-step E n x (st m o t) l) ∙ h .is;
+    }
+
+    pub swept-end : n ≤ x → Finishes E n t o
+    unfolding finished
+    swept-end l = record {
+      is = ap (λ (s : St). s .out) (sym (sweep-end E n x (st m o t) l) ∙ h .is);
+      long = h .fit .long;
+      short = omega (arith, h .fit .room);
+    }

@@ -1,0 +1,89 @@
+ghost use mathlib.Core.Path.{_≡_};
+ghost use Prim.Native.Nat.{ℕ, _-_, _<_, _≤_};
+ghost use lib.ListN.{getD};
+ghost use Rattle.depth.specs.Finish.{start};
+ghost use Rattle.depth.specs.Swept.{Finishes};
+ghost use Rattle.graph.specs.Reach.{matrix};
+ghost use Rattle.depth.specs.Dfs.{visits, tried};
+ghost use Rattle.depth.specs.Went.{Fit, Went};
+
+// x is visited: it is marked, its steps are tried, the largest neighbour first, and it is listed.
+pub fn visit(
+    adj: &[u8; 65536],
+    n: usize,
+    x: usize,
+    marks: &mut [u8; 256],
+    out: &mut [u32; 256],
+    t: usize,
+) -> usize
+    requires { ⌜ (x < n) × (getD (now marks) x 0 ≡ 0) × Fit n (now marks) (now out) t ⌝ }
+    ensures { λ r. ⌜ Went (λ f. visits (matrix (now (adj .entry))) n f x) n (now (marks .entry)) (now (out .entry)) t (now (marks .exit)) (now (out .exit)) r ⌝ }
+{
+    marks[x] = 1;
+    let mut end = t;
+    let mut k = n;
+    while 0 < k {
+        end = try_step(adj, n, x, k, marks, out, end);
+        k -= 1;
+    }
+    out[end] = x as u32;
+    end + 1
+}
+
+// The step from x to k - 1 is tried, where k neighbours are untried.
+fn try_step(
+    adj: &[u8; 65536],
+    n: usize,
+    x: usize,
+    k: usize,
+    marks: &mut [u8; 256],
+    out: &mut [u32; 256],
+    t: usize,
+) -> usize
+    requires { ⌜ (x < n) × (0 < k) × (k ≤ n) × Fit n (now marks) (now out) t ⌝ }
+    ensures { λ r. ⌜ Went (λ f. tried (matrix (now (adj .entry))) (visits (matrix (now (adj .entry))) n f) x (k - 1)) n (now (marks .entry)) (now (out .entry)) t (now (marks .exit)) (now (out .exit)) r ⌝ }
+{
+    let j = k - 1;
+    if adj[x * 256 + j] != 1 {
+        return t;
+    }
+    if marks[j] != 0 {
+        return t;
+    }
+    visit(adj, n, j, marks, out, t)
+}
+
+// A search from x, where x is not marked.
+fn start_at(
+    adj: &[u8; 65536],
+    n: usize,
+    x: usize,
+    marks: &mut [u8; 256],
+    out: &mut [u32; 256],
+    t: usize,
+) -> usize
+    requires { ⌜ (x < n) × Fit n (now marks) (now out) t ⌝ }
+    ensures { λ r. ⌜ Went (λ f. start (matrix (now (adj .entry))) n f x) n (now (marks .entry)) (now (out .entry)) t (now (marks .exit)) (now (out .exit)) r ⌝ }
+{
+    if marks[x] != 0 {
+        return t;
+    }
+    visit(adj, n, x, marks, out, t)
+}
+
+// The numbers below n as a search from ascending starts finishes them.
+pub fn finish_order(adj: &[u8; 65536], n: usize, order: &mut [u32; 256]) -> usize
+    requires { ⌜ n ≤ 256 ⌝ }
+    ensures { λ r. ⌜ Finishes (matrix (now (adj .entry))) n r (now (order .exit)) ⌝ }
+{
+    let mut marks = [0u8; 256];
+    let mut out = [0u32; 256];
+    let mut t = 0;
+    let mut x = 0;
+    while x < n {
+        t = start_at(adj, n, x, &mut marks, &mut out, t);
+        x += 1;
+    }
+    *order = out;
+    t
+}

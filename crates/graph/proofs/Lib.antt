@@ -1,0 +1,3 @@
+pub mod Bfs
+pub mod Held
+pub mod Post

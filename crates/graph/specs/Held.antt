@@ -1,0 +1,21 @@
+-- What the code's arrays hold while the queue is served: marks m, one for each number, and the queue itself in the first t places of o.
+-- Assumes nothing.
+use mathlib.Core.Path.{_≡_}
+use mathlib.Core.List.{List}
+use Prim.Native.Nat.{ℕ, _<_}
+use lib.ListN.{length, getD, take}
+use Rattle.lists.specs.Lists.{memb, Distinct, Below}
+use Rattle.lists.specs.Tests.{bit}
+
+-- m marks exactly what is in q
+abbrev pub Marks : ℕ → List ℕ → List ℕ → Type 0
+Marks n m q = (j : ℕ) → j < n → getD m j 0 ≡ bit (memb j q)
+
+pub record Held (n : ℕ) (m o : List ℕ) (t : ℕ) (q : List ℕ) : Type 0 where
+  pub wide : length m ≡ 256
+  pub long : length o ≡ 256
+  pub queue : take t o ≡ q
+  pub count : t ≡ length q
+  pub marks : Marks n m q
+  pub once : Distinct q
+  pub below : Below n q

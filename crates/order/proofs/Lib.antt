@@ -1,0 +1,4 @@
+pub mod Least
+pub mod Smallest
+pub mod Greedy
+pub mod State

@@ -1,0 +1,21 @@
+-- What the code of the strong components holds. Assumes nothing.
+use mathlib.Core.Path.{_≡_}
+use mathlib.Core.Bool.{Bool}
+use mathlib.Core.List.{List}
+use Prim.Native.Nat.{ℕ, _+_, _*_, _<_}
+use lib.ListN.{length, getD}
+use mathlib.Core.List
+use Rattle.graph.specs.Bfs.{bfs}
+use Rattle.lists.specs.Lists.{memb}
+use Rattle.lists.specs.Tests.{bit}
+
+-- the first v entries of row x are the marks, and nothing else is changed
+pub record Copied (x v : ℕ) (marks c₀ c : List ℕ) : Type 0 where
+  pub long : length c ≡ 65536
+  pub row : (i : ℕ) → i < v → getD c (x * 256 + i) 0 ≡ getD marks i 0
+  pub above : (i : ℕ) → i < x * 256 → getD c i 0 ≡ getD c₀ i 0
+
+-- what is reached from the numbers below x
+pub record Closure (E : ℕ → ℕ → Bool) (n x : ℕ) (c : List ℕ) : Type 0 where
+  pub long : length c ≡ 65536
+  pub is : (u v : ℕ) → u < x → v < n → getD c (u * 256 + v) 0 ≡ bit (memb v (bfs E n u))
