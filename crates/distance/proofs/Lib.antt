@@ -1,4 +1,0 @@
-pub mod Labels
-pub mod Cost
-pub mod Path
-pub mod Descent
