@@ -1,0 +1,105 @@
+-- A step's key: its cost, and in the low 16 bits one step. Assumes nothing.
+use mathlib.Core.Path.{_≡_, refl, sym, ap, _∙_, subst}
+use mathlib.Core.Bool.{Bool, true, false}
+use mathlib.Core.List.{List}
+use Prim.Native.Nat.{ℕ, suc, _+_, _-_, _*_, _≤_, _<_}
+use native.Mathlib.Nat.{not-suc-le-zero, lt-irrefl}
+use native.Mathlib.Omega.{arith}
+use borrow.Author.Count.{below-more}
+use lib.ListN.{length, getD, set, length-set}
+use lib.Seq.{set-getD}
+use borrow.Author.Tests.{eq-eqb, ne-eqb, lt-ltb, le-ltb}
+use Rattle.distance.proofs.Labels.{live-le, live-more, labels-more, shortest}
+use Rattle.distance.specs.Labels.{relM, relD, Relaxed, Labels, live, Best, Shortest}
+use Rattle.lists.proofs.Cases.{clash}
+use Rattle.lists.proofs.Store.{store-more, store-rest}
+use Rattle.distance.specs.Cost.{One, Part, Search}
+
+module _ (E : ℕ → ℕ → Bool) (W : ℕ → ℕ → ℕ) (u v base : ℕ) (m d : List ℕ) where
+  pub one-none : E u v ≡ false → One E W u v base m d m d
+  one-none e = record { bounded = λ t. clash t e; marks = rw e (sym (set-getD m v 0)); keys = rw e (sym (set-getD d v 0)) }
+
+  module _ (t : E u v ≡ true) (small : W u v ≤ 281474976710656) (c : ℕ) (is : c ≡ base + W u v) where
+    pub one-fresh : getD m v 0 ≡ 0 → One E W u v base m d (set m v 1) (set d v c)
+    one-fresh z =
+        let q = eq-eqb (getD m v 0) 0 z in
+        record { bounded = λ _. small; marks = rw (t, q); keys = rw (t, q, ← is) }
+
+    pub one-settled : (getD m v 0 ≡ 0 → ⊥) → (getD m v 0 ≡ 1 → ⊥) → One E W u v base m d m d
+    one-settled z o =
+        let q = ne-eqb (getD m v 0) 0 z in
+        let r = ne-eqb (getD m v 0) 1 o in
+        record { bounded = λ _. small; marks = rw (t, q) (sym (set-getD m v 0)); keys = rw (t, q, r) (sym (set-getD d v 0)) }
+
+    pub one-shorter : (getD m v 0 ≡ 0 → ⊥) → getD m v 0 ≡ 1 → c < getD d v 0 → One E W u v base m d m (set d v c)
+    one-shorter z o l =
+        let q = ne-eqb (getD m v 0) 0 z in
+        let r = eq-eqb (getD m v 0) 1 o in
+        let k = lt-ltb c (getD d v 0) l in
+        record { bounded = λ _. small; marks = rw (t, q) (sym (set-getD m v 0)); keys = rw (← is, t, q, r, k) }
+
+    pub one-kept : (getD m v 0 ≡ 0 → ⊥) → getD m v 0 ≡ 1 → getD d v 0 ≤ c → One E W u v base m d m d
+    one-kept z o l =
+        let q = ne-eqb (getD m v 0) 0 z in
+        let r = eq-eqb (getD m v 0) 1 o in
+        let k = le-ltb c (getD d v 0) l in
+        record { bounded = λ _. small; marks = rw (t, q) (sym (set-getD m v 0)); keys = rw (← is, t, q, r, k) (sym (set-getD d v 0)) }
+
+pub part-first : {E : ℕ → ℕ → Bool} {W : ℕ → ℕ → ℕ} {n u : ℕ} {m d : List ℕ} → length m ≡ 256 → length d ≡ 256 → Part E W n u m d 0 m d
+part-first a b = record {
+  within = omega arith;
+  wide = a;
+  long = b;
+  bounded = λ i l. absurd (not-suc-le-zero l);
+  marks = λ i l. absurd (not-suc-le-zero l);
+  keys = λ i l. absurd (not-suc-le-zero l);
+  marks-on = λ i l. refl;
+  keys-on = λ i l. refl;
+}
+
+module _ {E : ℕ → ℕ → Bool} {W : ℕ → ℕ → ℕ} {n u : ℕ} {m₀ d₀ : List ℕ} {v : ℕ} {m d : List ℕ} (h : Part E W n u m₀ d₀ v m d) (small : n ≤ 256) where
+  pub part-more : {m′ d′ : List ℕ} → v < n → One E W u v (getD d₀ u 0) m d m′ d′ → Part E W n u m₀ d₀ (v + 1) m′ d′
+  part-more {m′} {d′} l o = record {
+    within = omega arith;
+    wide = ap length (o .marks) ∙ length-set m v (relM (E u v) (getD m v 0)) ∙ h .wide;
+    long = ap length (o .keys) ∙ length-set d v (relD (E u v) (getD m v 0) (getD d v 0) (getD d₀ u 0 + W u v)) ∙ h .long;
+    bounded = below-more (λ i. E u i ≡ true → W u i ≤ 281474976710656) v (h .bounded) (o .bounded);
+    marks = rw (o .marks) (store-more (λ i x. x ≡ relM (E u i) (getD m₀ i 0)) m v (relM (E u v) (getD m v 0)) (omega (arith, h .wide)) (h .marks) (rw (h .marks-on v (omega arith))));
+    keys = rw (o .keys) (store-more (λ i x. x ≡ relD (E u i) (getD m₀ i 0) (getD d₀ i 0) (getD d₀ u 0 + W u i)) d v (relD (E u v) (getD m v 0) (getD d v 0) (getD d₀ u 0 + W u v)) (omega (arith, h .long)) (h .keys)
+        (rw (h .marks-on v (omega arith), h .keys-on v (omega arith))));
+    marks-on = rw (o .marks) (store-rest m m₀ v (relM (E u v) (getD m v 0)) (h .marks-on));
+    keys-on = rw (o .keys) (store-rest d d₀ v (relD (E u v) (getD m v 0) (getD d v 0) (getD d₀ u 0 + W u v)) (h .keys-on));
+  }
+
+  pub part-end : n ≤ v → Relaxed E W 281474976710656 n u m₀ d₀ m d
+  part-end l = record {
+    wide = h .wide;
+    long = h .long;
+    bounded = λ i li. h .bounded i (omega arith);
+    marks = λ i li. h .marks i (omega arith);
+    keys = λ i li. h .keys i (omega arith);
+  }
+
+module _ {E : ℕ → ℕ → Bool} {W : ℕ → ℕ → ℕ} {n s : ℕ} {m d : List ℕ} {u : ℕ} (h : Search E W n s m d u) (small : n ≤ 256) (ls : s < n) where
+  pub search-end : n ≤ u → Shortest E W n s m d
+  search-end l = shortest (h .0) (omega arith) (omega arith) ls (h .1 .none l)
+
+  module _ (lu : u < n) where
+    labelled : getD m u 0 ≡ 0 → ⊥
+    labelled z = lt-irrefl 0 (omega (arith, h .1 .some lu))
+
+    pub search-fits : getD d u 0 ≤ 144115188075855872
+    search-fits = omega (arith, h .0 .bound u lu labelled)
+
+    module _ {m′ d′ : List ℕ} (x : Relaxed E W 281474976710656 n u (set m u 2) d m′ d′) where
+      fewer : live n m ≡ suc (live n m′)
+      fewer = live-more (h .0) small ls lu (h .1 .some lu) (h .1 .least lu) x
+
+      pub search-less : live n m′ < live n m
+      search-less = omega (arith, fewer)
+
+      pub search-more : {u′ : ℕ} → Best n m′ d′ n u′ → Search E W n s m′ d′ u′
+      search-more b =
+          let e : (n - live n m) * 281474976710656 + 281474976710656 ≡ (n - live n m′) * 281474976710656 = omega (arith, fewer, live-le n m) in
+          let f : suc (n - live n m) ≡ n - live n m′ = omega (arith, fewer, live-le n m) in
+          (subst (λ (i : ℕ). Labels E W n s ((n - live n m′) * 281474976710656) i m′ d′) f (subst (λ (k : ℕ). Labels E W n s k (suc (n - live n m)) m′ d′) e (labels-more (h .0) small ls lu (h .1 .some lu) (h .1 .least lu) x)), b)

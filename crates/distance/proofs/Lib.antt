@@ -1,0 +1,4 @@
+pub mod Labels
+pub mod Cost
+pub mod Path
+pub mod Descent
