@@ -21,7 +21,7 @@ static void one(const char *name, void (*fill)(uint32_t *), double limit_ns) {
 
 int main(void) {
     puts("Full tables: 256 vertices, 192 hyperedges of 32 members. Nanoseconds a call.");
-    printf("%-24s %-34s %9s %9s %9s  %s\n", "what", "vertex numbers", "median", "least", "limit", "median/limit");
+    table_head();
     one("0 to 255, next 256", fill_dense, 4000);
     one("gaps of 1 to 1,000", fill_gaps, 30000);
     one("equal modulo 1,024", fill_equal_remainders, 30000);

@@ -7,6 +7,8 @@
 
 enum { ROUNDS = 801, CALLS = 20 };
 
+static double times[ROUNDS];
+
 static double now_ns(void) {
     struct timespec t;
     clock_gettime(CLOCK_MONOTONIC, &t);
@@ -18,19 +20,44 @@ static int by_value(const void *a, const void *b) {
     return (x > y) - (x < y);
 }
 
-#define TIME(what, table, limit_ns, call)                                                                     \
-    do {                                                                                                      \
-        static double times[ROUNDS];                                                                          \
-        for (int round = 0; round < ROUNDS; round++) {                                                        \
-            double began = now_ns();                                                                          \
-            for (int k = 0; k < CALLS; k++) {                                                                 \
-                call;                                                                                         \
-                __asm__ volatile("" ::: "memory");                                                            \
-            }                                                                                                 \
-            times[round] = (now_ns() - began) / CALLS;                                                        \
-        }                                                                                                     \
-        qsort(times, ROUNDS, sizeof *times, by_value);                                                        \
-        printf("%-24s %-34s %9.0f %9.0f %9.0f  %4.2f\n", what, table, times[ROUNDS / 2], times[0], (double)limit_ns, \
-               times[ROUNDS / 2] / (limit_ns));                                                               \
+static void table_head(void) {
+    printf("%-26s %-34s %9s %9s %9s  %s\n", "what", "table", "median", "least", "limit", "median/limit");
+}
+
+static void table_row(const char *what, const char *table, double less_ns, double limit_ns) {
+    qsort(times, ROUNDS, sizeof *times, by_value);
+    double median = times[ROUNDS / 2] - less_ns, least = times[0] - less_ns;
+    printf("%-26s %-34s %9.0f %9.0f %9.0f  %4.2f\n", what, table, median, least, limit_ns, median / limit_ns);
+}
+
+/* Fills `times` with the time of a call, each round's mean. */
+#define MEASURE(call)                              \
+    for (int round = 0; round < ROUNDS; round++) { \
+        double began = now_ns();                   \
+        for (int k = 0; k < CALLS; k++) {          \
+            call;                                  \
+            __asm__ volatile("" ::: "memory");     \
+        }                                          \
+        times[round] = (now_ns() - began) / CALLS; \
+    }
+
+/* A row for a call; for a call after a preparation, whose own median is taken off. */
+#define TIME(what, table, limit_ns, call)         \
+    do {                                          \
+        MEASURE(call)                             \
+        table_row(what, table, 0, limit_ns);      \
     } while (0)
+
+#define TIME_NET(what, table, limit_ns, less_ns, before, call) \
+    do {                                                       \
+        MEASURE(before; call)                                  \
+        table_row(what, table, less_ns, limit_ns);             \
+    } while (0)
+
+#define median_ns(call)                                          \
+    ({                                                           \
+        MEASURE(call)                                            \
+        qsort(times, ROUNDS, sizeof *times, by_value);           \
+        times[ROUNDS / 2];                                       \
+    })
 #endif

@@ -1,0 +1,61 @@
+/* Times the edits on tables that are full but for the record that is added. Each call works on a fresh copy of the table; the
+ * copy's own time is measured first and taken off. */
+#include <stdint.h>
+#include "tables.h"
+#include "timing.h"
+
+typedef struct {
+    uint32_t number;
+    uint64_t detail;
+} reply;
+
+reply timed_add_vertex(uint32_t *table, size_t words, uint32_t weight);
+reply timed_add_hyperedge(uint32_t *table, size_t words, const uint32_t *members, size_t count, uint32_t weight);
+reply timed_update_hyperedge_vertices(uint32_t *table, size_t words, uint32_t hyperedge, const uint32_t *members, size_t count);
+reply timed_remove_vertex(uint32_t *table, size_t words, uint32_t vertex);
+reply timed_remove_hyperedge(uint32_t *table, size_t words, uint32_t hyperedge);
+
+static uint32_t full[WORDS], room[WORDS], table[WORDS], members[MEMBERS];
+
+/* The dense table without its last vertex and its last hyperedge: room for one more of each. */
+static void fill_room(uint32_t *t) {
+    fill_dense(t);
+    for (int j = 0; j < HYPEREDGES; j++)
+        for (int i = 0; i < MEMBERS; i++)
+            t[HYPEREDGES_AT + RECORD * j + 3 + i] %= VERTICES - 1;
+    memset(t + VERTICES_AT + 2 * (VERTICES - 1), 0, 2 * sizeof *t);
+    memset(t + HYPEREDGES_AT + RECORD * (HYPEREDGES - 1), 0, RECORD * sizeof *t);
+    t[0] = t[2] = VERTICES - 1;
+    t[1] = t[3] = HYPEREDGES - 1;
+}
+
+static void must_be_done(const char *what, reply r) {
+    if (r.number != 0) {
+        printf("%s: refused %u\n", what, r.number);
+        exit(1);
+    }
+}
+
+#define EDIT(what, from, limit_ns, call)                            \
+    do {                                                            \
+        memcpy(table, from, sizeof table);                          \
+        must_be_done(what, call);                                   \
+        TIME_NET(what, #from, limit_ns, copy_ns,                    \
+                 memcpy(table, from, sizeof table), call);          \
+    } while (0)
+
+int main(void) {
+    fill_dense(full);
+    fill_room(room);
+    for (int i = 0; i < MEMBERS; i++)
+        members[i] = (uint32_t)i;
+    double copy_ns = median_ns(memcpy(table, full, sizeof table));
+    puts("Edits, dense numbers. `full`: 256 vertices, 192 hyperedges of 32 members; `room`: one less of each.");
+    table_head();
+    EDIT("add_vertex", room, 6000, timed_add_vertex(table, WORDS, 7));
+    EDIT("add_hyperedge", room, 6000, timed_add_hyperedge(table, WORDS, members, MEMBERS, 7));
+    EDIT("update_hyperedge_vertices", full, 6000, timed_update_hyperedge_vertices(table, WORDS, 100, members, MEMBERS));
+    EDIT("remove_hyperedge", full, 6000, timed_remove_hyperedge(table, WORDS, 0));
+    EDIT("remove_vertex", full, 30000, timed_remove_vertex(table, WORDS, 0));
+    return 0;
+}
