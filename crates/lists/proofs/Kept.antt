@@ -23,6 +23,12 @@ unfolding filter
 filter-ext p q [] h = refl
 filter-ext p q (x ∷ xs) h = rw (h x, filter-ext p q xs h)
 
+-- a test that always passes
+pub all-always : {A : Type 0} (f : A → Bool) (xs : List A) → ((x : A) → f x ≡ true) → all f xs ≡ true
+unfolding all
+all-always f [] h = refl
+all-always f (x ∷ xs) h = and-both _ _ (h x) (all-always f xs h)
+
 -- a test that follows from another
 pub all-then : {A : Type 0} (f g : A → Bool) (xs : List A) → ((x : A) → f x ≡ true → g x ≡ true) → all f xs ≡ true → all g xs ≡ true
 unfolding all
@@ -107,6 +113,25 @@ module _ {A : Type 0} (p : A → Bool) where
       on (p x)
       (λ e. rw e (ap (λ (r : List A). cond (q x) (x ∷ r) r) (filter-filter q xs)))
       (λ e. rw e (filter-filter q xs))
+
+  -- the order of two filters
+  pub filter-swap : (q : A → Bool) (xs : List A) → filter q (filter p xs) ≡ filter p (filter q xs)
+  unfolding filter
+  filter-swap q [] = refl
+  filter-swap q (x ∷ xs) =
+      on (p x)
+      (λ a. on (q x) (λ b. rw (a, b, a) (ap (λ (r : List A). x ∷ r) (filter-swap q xs))) (λ b. rw (a, b) (filter-swap q xs)))
+      (λ a. on (q x) (λ b. rw (a, b, a) (filter-swap q xs)) (λ b. rw (a, b) (filter-swap q xs)))
+
+  -- a first filter that drops only what the last one drops
+  pub filter-late : {B : Type 0} (f : A → B) (q : B → Bool) → ((x : A) → p x ≡ false → q (f x) ≡ false) → (xs : List A)
+      → filter q (map f (filter p xs)) ≡ filter q (map f xs)
+  unfolding filter
+  filter-late f q h [] = refl
+  filter-late {B} f q h (x ∷ xs) =
+      on (p x)
+      (λ e. rw e (ap (λ (r : List B). cond (q (f x)) (f x ∷ r) r) (filter-late f q h xs)))
+      (λ e. rw (e, h x e) (filter-late f q h xs))
 
   -- the keys of those kept
   pub keys-kept : (f : A → ℕ) (g : ℕ → Bool) (xs : List A) → all g (map f xs) ≡ true → all g (map f (filter p xs)) ≡ true

@@ -1,0 +1,4 @@
+pub mod Withdrawn
+pub mod Calls
+pub mod Steps
+pub mod Theorems
