@@ -4,15 +4,15 @@ use mathlib.Core.Bool.{Bool, true}
 use mathlib.Core.List.{List, map, map-map}
 use Prim.Native.Nat.{ℕ}
 use native.Mathlib.Nat.{le-trans}
-use lib.Dec.{leb, ltb}
+use lib.Dec.{leb}
 use lib.ListN.{length}
 use borrow.Author.Tests.{leb-true, le-leb}
 use Rattle.lists.specs.Tests.{_and_}
-use Rattle.lists.specs.Lists.{all, memb, filter, otherThan, isBelow}
+use Rattle.lists.specs.Lists.{all, filter, otherThan, isBelow}
 use Rattle.lists.proofs.Cases.{and-left, and-right, and-both}
 use Rattle.lists.proofs.Maps.{map-length}
-use Rattle.lists.proofs.Kept.{all-then, all-both, all-map, filter-map, filter-length, filter-pass, all-kept, keys-kept, ascending-kept, memb-kept}
-use Rattle.layout.specs.Content.{Vertex, Hyperedge, Table, vertexNumber, hyperedgeNumber, liveVertices, isLive, numbered, membersLive, valid}
+use Rattle.lists.proofs.Kept.{all-then, all-both, all-map, filter-map, filter-length, filter-pass, all-kept, keys-kept, ascending-kept, memb-filter}
+use Rattle.layout.specs.Content.{Vertex, Hyperedge, Table, vertexNumber, hyperedgeNumber, isLive, numbered, membersLive, valid}
 use Rattle.layout.specs.Layout.{vertexLimit, hyperedgeLimit}
 use Rattle.layout.specs.WellFormed.{counted, holdable}
 use Rattle.edits.specs.Edits.{itself, without, hasMembers, removeVertex, removeHyperedge}
@@ -35,7 +35,7 @@ module _ (v : ℕ) where
   live-without : (vs : List Vertex) (x : ℕ) → (isLive (map vertexNumber vs) x and otherThan itself v x) ≡ true → isLive (map vertexNumber (filter (otherThan vertexNumber v) vs)) x ≡ true
   unfolding otherThan
   live-without vs x e =
-      rw (← filter-map vertexNumber (otherThan itself v) vs) (memb-kept (otherThan itself v) x (map vertexNumber vs) (and-left _ _ e) (and-right _ _ e))
+      rw (← filter-map vertexNumber (otherThan itself v) vs) (memb-filter (otherThan itself v) x (map vertexNumber vs) ∙ and-both _ _ (and-right _ _ e) (and-left _ _ e))
 
   members-without : (vs : List Vertex) (e : Hyperedge) → membersLive (map vertexNumber vs) e ≡ true → membersLive (map vertexNumber (filter (otherThan vertexNumber v) vs)) (without v e) ≡ true
   unfolding membersLive without

@@ -7,10 +7,10 @@ use Prim.Native.Nat.{ℕ, _≤_, suc-le-suc}
 use native.Mathlib.Omega.{arith}
 use lib.Dec.{eqb, ltb}
 use lib.ListN.{length}
-use borrow.Author.Tests.{eqb-true, eqb-false, ne-eqb}
+use borrow.Author.Tests.{eqb-false, eq-eqb, ne-eqb}
 use Rattle.lists.specs.Tests.{_and_}
 use Rattle.lists.specs.Lists.{all, any, memb, filter, otherThan, ascending}
-use Rattle.lists.proofs.Cases.{on, clash, and-left, and-right, and-both, or-true, or-right, or-false-left, or-false-right}
+use Rattle.lists.proofs.Cases.{on, on-same, clash, and-left, and-right, and-both, and-false-left, and-false-right, or-true, or-right, or-false-left, or-false-right}
 
 -- ---- element by element
 
@@ -147,14 +147,17 @@ module _ {A : Type 0} (p : A → Bool) where
 
 -- ---- members and keys
 
-pub memb-kept : (p : ℕ → Bool) (x : ℕ) (xs : List ℕ) → memb x xs ≡ true → p x ≡ true → memb x (filter p xs) ≡ true
-unfolding filter
-memb-kept p x [] e h = e
-memb-kept p x (y ∷ ys) e h =
-    ⊎-elim
-    (λ a. rw (sym (ap p (eqb-true x y a)) ∙ h) (ap (λ (b : Bool). b || memb x (filter p ys)) a))
-    (λ a. on (p y) (λ k. rw k (or-right (eqb x y) _ (memb-kept p x ys a h))) (λ k. rw k (memb-kept p x ys a h)))
-    (or-true (eqb x y) (memb x ys) e)
+pub memb-filter : (p : ℕ → Bool) (x : ℕ) (xs : List ℕ) → memb x (filter p xs) ≡ (p x and memb x xs)
+unfolding filter _and_
+memb-filter p x [] = sym (and-false-right (p x) false refl)
+memb-filter p x (y ∷ ys) =
+    on-same x y
+    (λ e. on (p x)
+    (λ h. rw (h, ← ap p e, h, eq-eqb x y e))
+    (λ h. rw (← ap p e, h) (memb-filter p x ys ∙ and-false-left (p x) _ h)))
+    (λ ne. on (p y)
+    (λ h. rw (h, ne-eqb x y ne) (memb-filter p x ys))
+    (λ h. rw (h, ne-eqb x y ne) (memb-filter p x ys)))
 
 -- k is no key
 pub all-other : {A : Type 0} (f : A → ℕ) (k : ℕ) (xs : List A) → memb k (map f xs) ≡ false → all (otherThan f k) xs ≡ true

@@ -1,18 +1,17 @@
 -- A step of what a list of removals leaves is a walk of one step or more of what was there before. Assumes nothing.
 use mathlib.Core.Path.{_≡_, refl, sym, ap, _∙_, subst₂}
-use mathlib.Core.Bool.{Bool, true, false, _||_}
+use mathlib.Core.Bool.{Bool, true, _||_}
 use mathlib.Core.Logic.{⊎-elim}
 use mathlib.Core.List.{List, [], _∷_, map}
 use Prim.Native.Nat.{ℕ}
 use lib.Dec.{eqb}
 use borrow.Author.Tests.{eqb-true, eq-eqb}
-use Rattle.lists.specs.Tests.{_and_}
 use Rattle.lists.specs.Lists.{any, filter}
 use Rattle.lists.proofs.Cases.{on, clash, and-left, and-right, and-both, or-true, or-right}
 use Rattle.lists.proofs.Kept.{any-map, any-at, any-kept}
 use Rattle.walks.specs.Walks.{Reach, here, step, Closed}
 use Rattle.walks.proofs.Walks.{reach-trans, reach-through}
-use Rattle.layout.specs.Content.{Hyperedge, Table}
+use Rattle.layout.specs.Content.{Table}
 use Rattle.layout.specs.Steps.{stepsOf, isStep, makesStep, hasStep, StepIn}
 use Rattle.edits.specs.Edits.{hasMembers}
 use Rattle.removals.specs.Removals.{Removal, staysVertex, keptHyperedge, thinned, withdrawn}

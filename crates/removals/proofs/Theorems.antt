@@ -3,19 +3,23 @@ use mathlib.Core.Path.{_≡_, refl, sym, ap, _∙_}
 use mathlib.Core.Bool.{true, false}
 use mathlib.Core.List.{List, [], _∷_}
 use Prim.Native.Nat.{ℕ}
+use Rattle.lists.specs.Tests.{_and_}
+use Rattle.lists.specs.Lists.{any}
+use Rattle.lists.proofs.Cases.{and-false-right}
 use Rattle.walks.specs.Walks.{Reach, Closed}
 use Rattle.layout.specs.declared.Answer.the-variants.{NotWellFormed}
-use Rattle.layout.specs.Content.{liveVertices, liveHyperedges, isLive}
+use Rattle.layout.specs.Content.{Table, liveVertices, liveHyperedges, isLive}
 use Rattle.layout.specs.Layout.{limit, read, words}
 use Rattle.layout.specs.WellFormed.{wellFormed}
 use Rattle.layout.specs.Answers.{Result, result, onFormed, onLive, vertexMissing, hyperedgeMissing}
 use Rattle.layout.specs.Steps.{StepIn}
-use Rattle.layout.proofs.Back.{exactly-one}
-use Rattle.edits.specs.Results.{removeVertexResult, removeHyperedgeResult}
+use Rattle.layout.proofs.Back.{read-holdable, exactly-one}
+use Rattle.edits.specs.Results.{membersOf, removeVertexResult, removeHyperedgeResult}
 use Rattle.removals.specs.Orders.{Permutes}
-use Rattle.removals.specs.Removals.{Removal, vertex, hyperedge, removal, remove, removeAll, withdrawn}
+use Rattle.removals.specs.Removals.{Removal, vertex, hyperedge, removal, remove, removeAll, staysVertex, staysHyperedge, withdrawn}
 use Rattle.removals.proofs.Withdrawn.{withdrawn-permutes}
 use Rattle.removals.proofs.Calls.{formed-result, calls-formed, calls-read}
+use Rattle.removals.proofs.Live.{live-vertex, live-hyperedge}
 use Rattle.removals.proofs.Steps.{withdrawn-reach, withdrawn-closed}
 
 module _ (ws : List ℕ) (formed : wellFormed limit ws ≡ true) where
@@ -42,6 +46,16 @@ module _ (ws : List ℕ) (formed : wellFormed limit ws ≡ true) where
   pub removals-closed : (rs : List Removal) → Closed (StepIn (read limit (removeAll rs ws))) → Closed (StepIn (read limit ws))
   removals-closed rs c = withdrawn-closed rs (read limit ws) (rw (removals-content rs) at c)
 
+  -- a vertex is live afterwards that was live and is not named
+  pub removals-vertex : (rs : List Removal) (v : ℕ) → isLive (liveVertices (read limit (removeAll rs ws))) v ≡ (staysVertex rs v and isLive (liveVertices (read limit ws)) v)
+  removals-vertex rs v = ap (λ (t : Table). isLive (liveVertices t) v) (removals-content rs) ∙ live-vertex rs (read limit ws) v
+
+  -- a hyperedge is live afterwards that is not named and has a member that is not named
+  pub removals-hyperedge : (rs : List Removal) (x : ℕ)
+      → isLive (liveHyperedges (read limit (removeAll rs ws))) x ≡ (staysHyperedge rs x and any (staysVertex rs) (membersOf x (read limit ws .hyperedges)))
+  removals-hyperedge rs x =
+      ap (λ (t : Table). isLive (liveHyperedges t) x) (removals-content rs) ∙ live-hyperedge rs limit (read limit ws) (read-holdable limit ws formed) x
+
   -- what is not live is refused, and nothing changes
   pub vertex-refused : (v : ℕ) → isLive (liveVertices (read limit ws)) v ≡ false → removal (vertex v) ws ≡ result (vertexMissing v) ws
   unfolding removal removeVertexResult onLive
@@ -50,6 +64,12 @@ module _ (ws : List ℕ) (formed : wellFormed limit ws ≡ true) where
   pub hyperedge-refused : (x : ℕ) → isLive (liveHyperedges (read limit ws)) x ≡ false → removal (hyperedge x) ws ≡ result (hyperedgeMissing x) ws
   unfolding removal removeHyperedgeResult onLive
   hyperedge-refused x d = formed-result ws ws (removeHyperedgeResult x ws) formed ∙ rw d
+
+-- a hyperedge whose members were all removed is gone: its removal is refused, and nothing changes
+pub emptied-refused : (rs : List Removal) (x : ℕ) (ws : List ℕ) → wellFormed limit ws ≡ true → any (staysVertex rs) (membersOf x (read limit ws .hyperedges)) ≡ false
+    → removal (hyperedge x) (removeAll rs ws) ≡ result (hyperedgeMissing x) (removeAll rs ws)
+emptied-refused rs x ws formed d =
+    hyperedge-refused (removeAll rs ws) (removals-formed ws formed rs) x (removals-hyperedge ws formed rs x ∙ and-false-right (staysHyperedge rs x) _ d)
 
 -- words that are no table are refused, and nothing changes
 pub removal-unformed : (r : Removal) (ws : List ℕ) → wellFormed limit ws ≡ false → removal r ws ≡ result NotWellFormed ws

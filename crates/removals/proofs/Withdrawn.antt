@@ -4,11 +4,10 @@ use mathlib.Core.Bool.{Bool, true, false, not, _||_}
 use mathlib.Core.List.{List, [], _∷_, map, map-map, map-id}
 use Prim.Native.Nat.{ℕ}
 use native.Mathlib.Nat.{le-trans}
-use lib.Dec.{eqb, ltb}
-use lib.ListN.{length}
+use lib.Dec.{eqb}
 use borrow.Author.Tests.{ltb-false, le-ltb, ne-eqb}
 use Rattle.lists.specs.Tests.{_and_}
-use Rattle.lists.specs.Lists.{all, any, memb, filter, otherThan}
+use Rattle.lists.specs.Lists.{all, any, filter, otherThan}
 use Rattle.lists.proofs.Cases.{clash, and-left, and-right, or-right}
 use Rattle.lists.proofs.Kept.{map-ext, filter-ext, all-always, all-then, map-whole, filter-map, filter-length, filter-whole, filter-filter, filter-swap, filter-late, all-other}
 use Rattle.layout.specs.Content.{Vertex, Hyperedge, Table, vertexNumber, hyperedgeNumber, liveVertices, liveHyperedges, isLive, membersLive, valid}
