@@ -18,7 +18,7 @@ use Rattle.edits.specs.Results.{membersOf}
 use Rattle.removals.specs.Removals.{Removal, staysVertex, staysHyperedge, keptVertex, keptHyperedge, thinned, withdrawn}
 
 module _ (rs : List Removal) (t : Table) where
-  -- a vertex is live that was live and is not named
+  -- a vertex is live exactly when it was live and is not named
   pub live-vertex : (v : ℕ) → isLive (liveVertices (withdrawn rs t)) v ≡ (staysVertex rs v and isLive (liveVertices t) v)
   unfolding withdrawn keptVertex
   live-vertex v = ap (memb v) (sym (filter-map vertexNumber (staysVertex rs) (t .vertices))) ∙ memb-filter (staysVertex rs) v (liveVertices t)
@@ -38,6 +38,7 @@ below-none x [] e = refl
 below-none x (y ∷ ys) e = rw (ne-eqb x y (λ q. lt-irrefl x (rw (← q) at (ltb-true x y (and-left _ _ e))))) (below-none x ys (and-right _ _ e))
 
 module _ (rs : List Removal) where
+  -- a member stays
   abbrev remains : Hyperedge → Bool
   remains e = hasMembers (thinned rs e)
 
@@ -67,7 +68,7 @@ module _ (rs : List Removal) where
       (λ h. rw (h, ne-eqb x (e .number) ne, ne-eqb (e .number) x (λ q. ne (sym q))) (remains-live x es (and-right _ _ a)))
       (λ h. rw (h, ne-eqb (e .number) x (λ q. ne (sym q))) (remains-live x es (and-right _ _ a))))
 
-  -- a hyperedge is live that is not named and has a member that is not named
+  -- a hyperedge is live exactly when it is not named and a member of it is not named (`membersOf` has none for a number that was not live)
   pub live-hyperedge : (L : ℕ) (t : Table) → holdable L t ≡ true → (x : ℕ)
       → isLive (liveHyperedges (withdrawn rs t)) x ≡ (staysHyperedge rs x and any (staysVertex rs) (membersOf x (t .hyperedges)))
   unfolding withdrawn holdable valid numbered

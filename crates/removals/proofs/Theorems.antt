@@ -46,11 +46,11 @@ module _ (ws : List ℕ) (formed : wellFormed limit ws ≡ true) where
   pub removals-closed : (rs : List Removal) → Closed (StepIn (read limit (removeAll rs ws))) → Closed (StepIn (read limit ws))
   removals-closed rs c = withdrawn-closed rs (read limit ws) (rw (removals-content rs) at c)
 
-  -- a vertex is live afterwards that was live and is not named
+  -- a vertex is live afterwards exactly when it was live and is not named
   pub removals-vertex : (rs : List Removal) (v : ℕ) → isLive (liveVertices (read limit (removeAll rs ws))) v ≡ (staysVertex rs v and isLive (liveVertices (read limit ws)) v)
   removals-vertex rs v = ap (λ (t : Table). isLive (liveVertices t) v) (removals-content rs) ∙ live-vertex rs (read limit ws) v
 
-  -- a hyperedge is live afterwards that is not named and has a member that is not named
+  -- a hyperedge is live afterwards exactly when it is not named and a member of it is not named (`membersOf` has none for a number that was not live)
   pub removals-hyperedge : (rs : List Removal) (x : ℕ)
       → isLive (liveHyperedges (read limit (removeAll rs ws))) x ≡ (staysHyperedge rs x and any (staysVertex rs) (membersOf x (read limit ws .hyperedges)))
   removals-hyperedge rs x =
