@@ -12,3 +12,4 @@ pub mod Flat
 pub mod Parts
 pub mod Filter
 pub mod Store
+pub mod Kept

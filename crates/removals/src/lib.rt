@@ -1,0 +1,1 @@
+// Removals, one after the other. It has no code of its own.
