@@ -1,9 +1,8 @@
 -- The stores of `put_vertex` give the words of the table with one vertex more. Assumes nothing.
-use mathlib.Core.Path.{_≡_, refl, sym, ap, ap₂, _∙_}
+use mathlib.Core.Path.{_≡_, sym, ap, ap₂, _∙_}
 use mathlib.Core.Bool.{true}
 use mathlib.Core.List.{List, [], _∷_, _++_}
-use Prim.Native.Nat.{ℕ, _+_, _*_, _-_, _≤_, _<_}
-use native.Mathlib.Nat.{mul-le-mul-right}
+use Prim.Native.Nat.{ℕ, _+_, _-_, _≤_, _<_}
 use native.Mathlib.Numerals.{add-one}
 use native.Mathlib.Omega.{arith}
 use lib.ListN.{length, getD, set, drop, length-set}
@@ -12,13 +11,17 @@ use Rattle.lists.specs.Lists.{tab}
 use Rattle.lists.proofs.Tab.{tab-ext, tab-suc, length-tab}
 use Rattle.lists.proofs.Every.{every-of}
 use Rattle.lists.proofs.Flat.{zeros-part-of}
+use Rattle.layout.specs.declared.Answer.the-variants.{Done, Full, NumbersSpent}
 use Rattle.layout.specs.Content.{Vertex}
-use Rattle.layout.specs.Layout.{vertexLimit, vertexSize, recordSize, hyperedgesAt, size, vertexWord, hyperedgeWord, nextVertexIn, vertexCount, hyperedgeCount, vertexAt, hyperedgeAt, readVertices, readHyperedges, read, words}
+use Rattle.layout.specs.Layout.{limit, vertexLimit, recordSize, hyperedgesAt, size, vertexWord, hyperedgeWord, nextVertexIn, vertexCount, hyperedgeCount, vertexAt, hyperedgeAt, readVertices, readHyperedges, read, words}
 use Rattle.layout.specs.WellFormed.{recordShaped, unusedVertices, unusedHyperedges, Shaped, Formed}
 use Rattle.layout.proofs.Words.{words-of}
+use Rattle.layout.specs.Answers.{result}
 use Rattle.edits.specs.Edits.{addVertex}
+use Rattle.edits.specs.Results.{lastNumber, addVertexResult}
 use Rattle.edits.specs.Records.{putVertex}
 use Rattle.edits.proofs.Kept.{vertex-unused, hyperedge-kept, record-kept}
+use Rattle.edits.proofs.Refusals.{on-full, on-room, on-spent, on-number}
 
 module _ (L : ℕ) (ws : List ℕ) (n x w : ℕ) (f : Formed L ws) (en : n ≡ vertexCount ws) (ex : x ≡ nextVertexIn ws) (hn : n < vertexLimit) where
   A : List ℕ
@@ -119,3 +122,25 @@ module _ (L : ℕ) (ws : List ℕ) (n x w : ℕ) (f : Formed L ws) (en : n ≡ v
   pub put-vertex-words : putVertex n x w ws ≡ words L (addVertex w (read L ws))
   unfolding E C B A
   put-vertex-words = words-of L E (addVertex w (read L ws)) put-shaped put-reads
+
+-- ---- for `search`: n is what `vertex_count` found, x what `next_vertex` did
+
+module _ (w : ℕ) (ws : List ℕ) (n : ℕ) (en : n ≡ vertexCount ws) where
+  live : length (read limit ws .vertices) ≡ n
+  live = length-tab (vertexAt ws) (vertexCount ws) ∙ sym en
+
+  pub add-vertex-full : vertexLimit ≤ n → result Full ws ≡ addVertexResult w ws (read limit ws)
+  unfolding addVertexResult
+  add-vertex-full h = on-full _ vertexLimit ws _ (rw live h)
+
+  module _ (x : ℕ) (ex : x ≡ nextVertexIn ws) (h : n < vertexLimit) where
+    pub add-vertex-spent : x ≡ lastNumber → result NumbersSpent ws ≡ addVertexResult w ws (read limit ws)
+    unfolding addVertexResult
+    add-vertex-spent q = on-spent (nextVertexIn ws) ws _ (sym ex ∙ q) ∙ on-room _ vertexLimit ws _ (rw live h)
+
+    pub add-vertex-done : (exit : List ℕ) → Formed limit ws → (x ≡ lastNumber → ⊥) → exit ≡ putVertex n x w ws
+        → result (Done x) exit ≡ addVertexResult w ws (read limit ws)
+    unfolding addVertexResult
+    add-vertex-done exit f q e =
+        ap₂ (λ (y : ℕ) (l : List ℕ). result (Done y) l) ex (e ∙ put-vertex-words limit ws n x w f en ex h)
+        ∙ on-number (nextVertexIn ws) ws _ (λ p. q (ex ∙ p)) ∙ on-room _ vertexLimit ws _ (rw live h)

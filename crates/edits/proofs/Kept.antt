@@ -1,8 +1,8 @@
 -- What an edit that keeps the table's length leaves as it was: the records whose words it does not change. Assumes nothing.
-use mathlib.Core.Path.{_≡_, refl, sym, ap, _∙_}
+use mathlib.Core.Path.{_≡_, ap, _∙_}
 use mathlib.Core.Bool.{true}
 use mathlib.Core.List.{List}
-use Prim.Native.Nat.{ℕ, _+_, _*_, _-_, _≤_, _<_}
+use Prim.Native.Nat.{ℕ, _+_, _-_, _≤_, _<_}
 use native.Mathlib.Nat.{mul-le-mul-right}
 use native.Mathlib.Omega.{arith}
 use lib.ListN.{length, getD}
@@ -12,7 +12,7 @@ use Rattle.lists.proofs.Every.{every-at}
 use Rattle.lists.proofs.Stride.{stride}
 use Rattle.lists.proofs.Flat.{zeros-part-at, zeros-part-of}
 use Rattle.lists.proofs.Parts.{part-tail}
-use Rattle.layout.specs.Layout.{vertexLimit, hyperedgeLimit, vertexSize, recordSize, verticesAt, hyperedgesAt, size, vertexWord, hyperedgeWord, vertexCount, hyperedgeCount, vertexAt, hyperedgeAt, readVertices}
+use Rattle.layout.specs.Layout.{hyperedgeLimit, recordSize, verticesAt, hyperedgesAt, vertexWord, hyperedgeWord, vertexCount, hyperedgeCount, vertexAt, hyperedgeAt, readVertices}
 use Rattle.layout.specs.WellFormed.{recordShaped, unusedVertices, unusedHyperedges, Shaped, Formed}
 use Rattle.layout.proofs.Record.{hyperedge-moved, record-moved}
 

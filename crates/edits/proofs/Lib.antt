@@ -1,4 +1,9 @@
+pub mod OverAt
 pub mod Stored
 pub mod Kept
 pub mod AddVertex
+pub mod Put
+pub mod AddHyperedge
+pub mod UpdateHyperedge
+pub mod Identical
 pub mod Refusals

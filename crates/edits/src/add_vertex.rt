@@ -1,6 +1,6 @@
 // Adding a vertex.
 ghost use mathlib.Core.Path.{_≡_};
-ghost use Prim.Native.Nat.{ℕ, _+_, _*_, _<_};
+ghost use Prim.Native.Nat.{_<_};
 ghost use lib.ListN.{length};
 ghost use Rattle.layout.specs.Layout.{limit, vertexLimit, size, read};
 ghost use Rattle.layout.specs.WellFormed.{Formed};

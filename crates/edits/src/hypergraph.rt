@@ -13,7 +13,7 @@ pub fn clear(t: &mut [u32]) -> Answer
     if t.len() != layout::SIZE {
         return Answer::NotWellFormed;
     }
-    store_zeros(t, layout::SIZE);
+    store_zeros(t, 0, layout::SIZE);
     Answer::Done(0)
 }
 

@@ -1,5 +1,5 @@
 -- `edits::add_vertex::add_formed` meets its contract. Assumes nothing.
-use Rattle.edits.proofs.Refusals.{add-vertex-full, add-vertex-spent, add-vertex-done}
+use Rattle.edits.proofs.AddVertex.{add-vertex-full, add-vertex-spent, add-vertex-done}
 use borrow.Author.Needs.{needs}
 use Rattle.edits.proofs.add_vertex.add_formed.Statement.{statement}
 use Rattle.edits.proofs.add_vertex.add_formed.Tie as tie

@@ -1,5 +1,5 @@
 -- `edits::records::store` meets its contract: `Stored` at each word. Assumes nothing.
-use Prim.Native.Nat.{_≤_, _-_}
+use Prim.Native.Nat.{_+_, _≤_, _-_}
 use lib.ListN.{length}
 use Rattle.edits.proofs.Stored.{Stored, stored-none, stored-more, stored-end}
 use borrow.Author.Needs.{needs}
@@ -7,25 +7,28 @@ use Rattle.edits.proofs.records.store.Statement.{statement}
 use Rattle.edits.proofs.records.store.Tie as tie
 
 abbrev Inv-loop : tie.InvT-loop
-Inv-loop s₀ list i₀ s i = (i ≤ length list) × (length list ≤ length s₀) × Stored list s₀ i s
+Inv-loop t₀ a list i₀ t i = (i ≤ length list) × (a + length list ≤ length t₀) × Stored a list t₀ i t
 
 abbrev μ-loop : tie.MeasureT-loop
-μ-loop s₀ list i₀ s i = length list - i
+μ-loop t₀ a list i₀ t i = length list - i
 
 loop-holds : tie.Need-loop-holds Inv-loop μ-loop
-loop-holds c = (search needs, search needs, stored-none _ _)
+loop-holds c = (search needs, search needs, stored-none _ _ _)
 
-mul-s : tie.Need-mul-s Inv-loop μ-loop
-mul-s c = search needs
+mul-t : tie.Need-mul-t Inv-loop μ-loop
+mul-t c = search needs
 
-shared-slice-read-s : tie.Need-shared-slice-read-s Inv-loop μ-loop
-shared-slice-read-s c = search needs
+shared-slice-read-t : tie.Need-shared-slice-read-t Inv-loop μ-loop
+shared-slice-read-t c = search needs
 
-mul-s-2 : tie.Need-mul-s-2 Inv-loop μ-loop
-mul-s-2 c = search needs
+add-t : tie.Need-add-t Inv-loop μ-loop
+add-t c = search needs
 
-slice-write-s : tie.Need-slice-write-s Inv-loop μ-loop
-slice-write-s c = search needs
+mul-t-2 : tie.Need-mul-t-2 Inv-loop μ-loop
+mul-t-2 c = search needs
+
+slice-write-t : tie.Need-slice-write-t Inv-loop μ-loop
+slice-write-t c = search needs
 
 add-i : tie.Need-add-i Inv-loop μ-loop
 add-i c = search needs
@@ -49,10 +52,11 @@ store-spec =
     Inv-loop
     μ-loop
     loop-holds
-    mul-s
-    shared-slice-read-s
-    mul-s-2
-    slice-write-s
+    mul-t
+    shared-slice-read-t
+    add-t
+    mul-t-2
+    slice-write-t
     add-i
     loop-less
     loop-again

@@ -1,5 +1,5 @@
 -- `edits::records::store_zeros` meets its contract: `Stored` at each word. Assumes nothing.
-use Prim.Native.Nat.{_≤_, _-_}
+use Prim.Native.Nat.{_+_, _≤_, _-_}
 use lib.ListN.{length, replicate}
 use Rattle.edits.proofs.Stored.{Stored, stored-none, zeros-more, zeros-end}
 use borrow.Author.Needs.{needs}
@@ -7,19 +7,22 @@ use Rattle.edits.proofs.records.store_zeros.Statement.{statement}
 use Rattle.edits.proofs.records.store_zeros.Tie as tie
 
 abbrev Inv-loop : tie.InvT-loop
-Inv-loop s₀ n i₀ s i = (i ≤ n) × (n ≤ length s₀) × Stored (replicate n 0) s₀ i s
+Inv-loop t₀ a n i₀ t i = (i ≤ n) × (a + n ≤ length t₀) × Stored a (replicate n 0) t₀ i t
 
 abbrev μ-loop : tie.MeasureT-loop
-μ-loop s₀ n i₀ s i = n - i
+μ-loop t₀ a n i₀ t i = n - i
 
 loop-holds : tie.Need-loop-holds Inv-loop μ-loop
-loop-holds c = (search needs, search needs, stored-none _ _)
+loop-holds c = (search needs, search needs, stored-none _ _ _)
 
-mul-s : tie.Need-mul-s Inv-loop μ-loop
-mul-s c = search needs
+add-t : tie.Need-add-t Inv-loop μ-loop
+add-t c = search needs
 
-slice-write-s : tie.Need-slice-write-s Inv-loop μ-loop
-slice-write-s c = search needs
+mul-t : tie.Need-mul-t Inv-loop μ-loop
+mul-t c = search needs
+
+slice-write-t : tie.Need-slice-write-t Inv-loop μ-loop
+slice-write-t c = search needs
 
 add-i : tie.Need-add-i Inv-loop μ-loop
 add-i c = search needs
@@ -43,8 +46,9 @@ store-zeros-spec =
     Inv-loop
     μ-loop
     loop-holds
-    mul-s
-    slice-write-s
+    add-t
+    mul-t
+    slice-write-t
     add-i
     loop-less
     loop-again
