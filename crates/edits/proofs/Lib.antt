@@ -7,3 +7,5 @@ pub mod AddHyperedge
 pub mod UpdateHyperedge
 pub mod Identical
 pub mod Refusals
+pub mod AddHoldable
+pub mod StaysFormed

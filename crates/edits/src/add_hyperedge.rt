@@ -11,6 +11,7 @@ ghost use Rattle.edits.specs.Stages.{firstIdentical, addNewResult};
 use crate::member_lists::Judged;
 use crate::member_lists::judge_members;
 use crate::member_lists::same_members;
+use crate::records::LAST_NUMBER;
 use crate::records::put_members;
 use layout::Answer;
 use layout::Found;
@@ -39,7 +40,7 @@ fn add_new(t: &mut [u32], members: &[u32], weight: u32) -> Answer
         return Answer::Full;
     }
     let x = layout::next_hyperedge(t);
-    if x == 4294967295 {
+    if x == LAST_NUMBER {
         return Answer::NumbersSpent;
     }
     put_hyperedge(t, m, x, weight, members);

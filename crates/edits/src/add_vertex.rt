@@ -7,6 +7,7 @@ ghost use Rattle.layout.specs.WellFormed.{Formed};
 ghost use Rattle.layout.specs.Answers.{onFormed, result};
 ghost use Rattle.edits.specs.Results.{lastNumber, addVertexResult};
 ghost use Rattle.edits.specs.Records.{putVertex};
+use crate::records::LAST_NUMBER;
 use layout::Answer;
 
 // Stores a vertex of number x at place n, and counts it.
@@ -30,7 +31,7 @@ fn add_formed(t: &mut [u32], weight: u32) -> Answer
         return Answer::Full;
     }
     let x = layout::next_vertex(t);
-    if x == 4294967295 {
+    if x == LAST_NUMBER {
         return Answer::NumbersSpent;
     }
     put_vertex(t, n, x, weight);

@@ -5,6 +5,9 @@ ghost use lib.ListN.{length, replicate};
 ghost use Rattle.layout.specs.Layout.{limit, hyperedgeLimit, size, hyperedgeWord};
 ghost use Rattle.edits.specs.Records.{overAt, memberWords};
 
+// The number that is never given.
+pub const LAST_NUMBER: u32 = 4294967295;
+
 // Stores the list from word a on.
 fn store(t: &mut [u32], a: usize, list: &[u32])
     requires { ⌜ a + length (now list) ≤ length (now t) ⌝ }
@@ -22,10 +25,10 @@ pub fn store_zeros(t: &mut [u32], a: usize, n: usize)
     requires { ⌜ a + n ≤ length (now t) ⌝ }
     ensures { λ _. ⌜ now (t .exit) ≡ overAt a (replicate n 0) (now (t .entry)) ⌝ }
 {
-    let mut i = 0;
-    while i < n {
-        t[a + i] = 0;
-        i += 1;
+    let mut k = 0;
+    while k < n {
+        t[a + k] = 0;
+        k += 1;
     }
 }
 

@@ -7,10 +7,10 @@ use Rattle.edits.proofs.records.store_zeros.Statement.{statement}
 use Rattle.edits.proofs.records.store_zeros.Tie as tie
 
 abbrev Inv-loop : tie.InvT-loop
-Inv-loop t₀ a n i₀ t i = (i ≤ n) × (a + n ≤ length t₀) × Stored a (replicate n 0) t₀ i t
+Inv-loop t₀ a n k₀ t k = (k ≤ n) × (a + n ≤ length t₀) × Stored a (replicate n 0) t₀ k t
 
 abbrev μ-loop : tie.MeasureT-loop
-μ-loop t₀ a n i₀ t i = n - i
+μ-loop t₀ a n k₀ t k = n - k
 
 loop-holds : tie.Need-loop-holds Inv-loop μ-loop
 loop-holds c = (search needs, search needs, stored-none _ _ _)
@@ -24,8 +24,8 @@ mul-t c = search needs
 slice-write-t : tie.Need-slice-write-t Inv-loop μ-loop
 slice-write-t c = search needs
 
-add-i : tie.Need-add-i Inv-loop μ-loop
-add-i c = search needs
+add-k : tie.Need-add-k Inv-loop μ-loop
+add-k c = search needs
 
 loop-less : tie.Need-loop-less Inv-loop μ-loop
 loop-less c = search needs
@@ -49,7 +49,7 @@ store-zeros-spec =
     add-t
     mul-t
     slice-write-t
-    add-i
+    add-k
     loop-less
     loop-again
     same-length
