@@ -2,7 +2,7 @@
 use mathlib.Core.Path.{_≡_, refl, sym, ap, _∙_}
 use mathlib.Core.Bool.{true}
 use mathlib.Core.List.{List, [], _∷_, _++_}
-use Prim.Native.Nat.{ℕ, _*_, _-_, _≤_, _<_}
+use Prim.Native.Nat.{ℕ, _+_, _*_, _-_, _≤_, _<_}
 use native.Mathlib.Omega.{arith}
 use lib.Dec.{eqb, ltb, leb}
 use lib.ListN.{length, replicate, replicate-append-replicate}
@@ -12,7 +12,7 @@ use Rattle.lists.specs.Lists.{all, sameList, flat, ascending}
 use Rattle.lists.proofs.Cases.{on, and-both}
 use Rattle.layout.specs.declared.Answer.{Answer}
 use Rattle.layout.specs.Content.{Hyperedge, Table, isLive, numbered, valid}
-use Rattle.layout.specs.Layout.{limit, hyperedgeLimit, vertexLimit, vertexSize, recordSize, hyperedgesAt, size, read, words}
+use Rattle.layout.specs.Layout.{limit, hyperedgeLimit, vertexLimit, vertexSize, recordSize, verticesAt, size, read, words}
 use Rattle.layout.specs.WellFormed.{wellFormed, holdable}
 use Rattle.layout.specs.Answers.{Result, onFormed, onLive}
 use Rattle.layout.proofs.Back.{words-formed, read-holdable}
@@ -89,14 +89,14 @@ module _ (ws : List ℕ) (h : wellFormed limit ws ≡ true) where
 abbrev nothing : Table
 nothing = record { nextVertex = 0; nextHyperedge = 0; vertices = []; hyperedges = [] }
 
+three-runs : (a b c : ℕ) → (replicate {A = ℕ} a 0 ++ replicate b 0) ++ replicate c 0 ≡ replicate (a + b + c) 0
+three-runs a b c = ap (λ (l : List ℕ). l ++ replicate c 0) (replicate-append-replicate a b 0) ∙ replicate-append-replicate (a + b) c 0
+
 cleared : (L : ℕ) → replicate (size L) 0 ≡ words L nothing
 unfolding words flat
 cleared L =
-    let n : ℕ = vertexLimit * vertexSize in
-    let m : ℕ = hyperedgeLimit * recordSize L in
-    let z : m - 0 ≡ m = omega arith in
-    sym (ap (λ (k : ℕ). (replicate 4 0 ++ replicate n 0) ++ replicate k 0) z
-    ∙ ap (λ (l : List ℕ). l ++ replicate m 0) (replicate-append-replicate 4 n 0) ∙ replicate-append-replicate hyperedgesAt m 0)
+    let z : hyperedgeLimit * recordSize L ≡ hyperedgeLimit * recordSize L - 0 = omega arith in
+    sym (rw (← z) (three-runs verticesAt (vertexLimit * vertexSize) (hyperedgeLimit * recordSize L)))
 
 pub clear-stays : (ws : List ℕ) → length ws ≡ size limit → wellFormed limit (clearResult ws .lent) ≡ true
 unfolding clearResult holdable valid numbered ascending all _and_

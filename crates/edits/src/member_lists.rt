@@ -27,7 +27,10 @@ pub fn judge_members(t: &[u32], members: &[u32], d: u32) -> Judged
     }
     let f = layout::first_missing_vertex(t, members);
     match f {
-        Found::At(i) => Judged::Refused(Answer::VertexNotLive(VertexIndex(members[i]))),
+        Found::At(i) => {
+            let v = members[i];
+            Judged::Refused(Answer::VertexNotLive(VertexIndex(v)))
+        }
         Found::Nothing => Judged::Fine,
     }
 }

@@ -16,11 +16,11 @@ first-missing-vertex-requires c κs = search needs
 enum-known-f : tie.Need-enum-known-f
 enum-known-f c = search needs
 
-mul-t12 : tie.Need-mul-t12
-mul-t12 c = search (needs, missing-within)
+mul-v : tie.Need-mul-v
+mul-v c = search (needs, missing-within)
 
-shared-slice-read-t14 : tie.Need-shared-slice-read-t14
-shared-slice-read-t14 c = search missing-within
+shared-slice-read-v : tie.Need-shared-slice-read-v
+shared-slice-read-v c = search missing-within
 
 enum-told : tie.Need-enum-told
 enum-told c = search needs
@@ -39,8 +39,8 @@ judge-members-spec =
     returns-2
     first-missing-vertex-requires
     enum-known-f
-    mul-t12
-    shared-slice-read-t14
+    mul-v
+    shared-slice-read-v
     enum-told
     returns-3
     returns-4)
