@@ -1,1 +1,12 @@
 pub mod Holdable
+pub mod OverAt
+pub mod Stored
+pub mod Kept
+pub mod AddVertex
+pub mod Put
+pub mod AddHyperedge
+pub mod UpdateHyperedge
+pub mod Identical
+pub mod Refusals
+pub mod AddHoldable
+pub mod StaysFormed

@@ -1,2 +1,4 @@
 pub mod Edits
 pub mod Results
+pub mod Records
+pub mod Stages

@@ -1,1 +1,7 @@
 // The edits, a file for each.
+pub mod add_hyperedge;
+pub mod add_vertex;
+pub mod hypergraph;
+pub mod member_lists;
+pub mod records;
+pub mod update_hyperedge_vertices;

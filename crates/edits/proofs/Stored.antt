@@ -1,0 +1,56 @@
+-- A loop that stores a list word by word. Assumes nothing.
+use mathlib.Core.Path.{_≡_, refl, sym, ap, ap₂, _∙_}
+use mathlib.Core.List.{List, [], _∷_, append-nil}
+use Prim.Native.Nat.{ℕ, _+_, _-_, _≤_, _<_}
+use native.Mathlib.Numerals.{add-one}
+use native.Mathlib.Omega.{arith}
+use lib.ListN.{length, getD, set, take, replicate, length-set, length-replicate, getD-replicate, drop-of-length-le}
+use lib.Seq.{take-suc, take-all, length-take-le}
+use Rattle.lists.specs.Lists.{over}
+use Rattle.edits.specs.Records.{overAt, memberWords}
+use Rattle.edits.proofs.OverAt.{over-at-none, set-over-at, over-at-join, over-at-more}
+
+-- after i turns the first i words of xs are stored from a on
+pub record Stored (a : ℕ) (xs ws : List ℕ) (i : ℕ) (s : List ℕ) : Type 0 where
+  pub is : s ≡ overAt a (take i xs) ws
+  pub same : length s ≡ length ws
+
+pub stored-none : (a : ℕ) (xs ws : List ℕ) → Stored a xs ws 0 ws
+stored-none a xs ws = record { is = sym (over-at-none a ws); same = refl }
+
+module _ {a : ℕ} {xs ws : List ℕ} {i : ℕ} {s : List ℕ} (st : Stored a xs ws i s) where
+  pub stored-more : i < length xs → a + length xs ≤ length ws → Stored a xs ws (i + 1) (set s (a + i) (getD xs i 0))
+  stored-more h l =
+      let e : length (take i xs) ≡ i = length-take-le i xs (omega arith) in
+      record {
+        is = ap₂ (λ (r : List ℕ) (k : ℕ). set r (a + k) (getD xs i 0)) (st .is) (sym e)
+            ∙ over-at-more a (take i xs) ws (omega arith) (getD xs i 0) (omega arith)
+            ∙ ap (λ (r : List ℕ). overAt a r ws) (sym (take-suc xs i 0 h) ∙ ap (λ (k : ℕ). take k xs) (sym (add-one i)));
+        same = length-set s (a + i) (getD xs i 0) ∙ st .same;
+      }
+
+  pub stored-end : length xs ≤ i → s ≡ overAt a xs ws
+  stored-end h = st .is ∙ ap (λ (r : List ℕ). overAt a r ws) (take-all i xs h)
+
+-- a list of n words of 0
+module _ {a n : ℕ} {ws : List ℕ} {i : ℕ} {s : List ℕ} (st : Stored a (replicate n 0) ws i s) where
+  pub zeros-more : i < n → a + n ≤ length ws → Stored a (replicate n 0) ws (i + 1) (set s (a + i) 0)
+  zeros-more h l = rw (getD-replicate {A = ℕ} n i 0 0 h) at (stored-more st (rw length-replicate h) (rw length-replicate l))
+
+  pub zeros-end : n ≤ i → s ≡ overAt a (replicate n 0) ws
+  zeros-end h = stored-end st (rw length-replicate h)
+
+-- n words of 0 over n words
+pub zeros-all : (n : ℕ) (ws : List ℕ) → length ws ≡ n → overAt 0 (replicate n 0) ws ≡ replicate n 0
+unfolding over overAt
+zeros-all n ws e = rw (length-replicate, drop-of-length-le ws {i = n} (omega arith), append-nil)
+
+-- the count, the members, and 0 in the words behind them
+module _ (L : ℕ) (ms ws : List ℕ) (a : ℕ) (le : length ms ≤ L) (h : a + (1 + L) ≤ length ws) (B exit : List ℕ) where
+  pub members-stored : B ≡ overAt (a + 1) ms (set ws a (length ms)) → exit ≡ overAt (a + 1 + length ms) (replicate (L - length ms) 0) B → exit ≡ overAt a (memberWords L ms) ws
+  members-stored q r =
+      let e : a + 1 + length ms ≡ a + length (length ms ∷ ms) = omega arith in
+      let b : B ≡ overAt a (length ms ∷ ms) ws =
+      q ∙ ap (overAt (a + 1) ms) (set-over-at ws a (length ms) (omega arith)) ∙ over-at-join a (length ms ∷ []) ws (omega arith) ms in
+      r ∙ ap₂ (λ (k : ℕ) (l : List ℕ). overAt k (replicate (L - length ms) 0) l) e b
+      ∙ over-at-join a (length ms ∷ ms) ws (omega arith) (replicate (L - length ms) 0)

@@ -1,0 +1,50 @@
+-- What is left to answer of an edit after its first refusals. Assumes nothing.
+use mathlib.Core.Path.{_≡_}
+use mathlib.Core.Bool.{cond}
+use mathlib.Core.List.{List, [], _∷_}
+use Prim.Native.Nat.{ℕ, zero, suc, _≤_, _<_}
+use lib.ListN.{length}
+use Rattle.layout.specs.declared.Found.{Found}
+use Rattle.layout.specs.declared.Found.the-variants.{At, Nothing}
+use Rattle.layout.specs.declared.Answer.the-variants.{Done}
+use Rattle.layout.specs.Content.{Hyperedge, Table}
+use Rattle.layout.specs.Layout.{limit, hyperedgeLimit, words}
+use Rattle.layout.specs.Answers.{Result, result, onLiveVertices}
+use Rattle.edits.specs.declared.member_lists.Judged.{Judged}
+use Rattle.edits.specs.declared.member_lists.Judged.the-variants.{Refused, Fine}
+use Rattle.edits.specs.Edits.{addHyperedge, updateHyperedge}
+use Rattle.edits.specs.Results.{onSome, onShort, onRoom, onNumber, identical, onChanged}
+
+-- 2, 6, 3
+abbrev pub onMembers : List ℕ → ℕ → Table → List ℕ → Result → Result
+onMembers ms d t lent r = onSome ms d lent (onShort ms lent (onLiveVertices t ms lent r))
+
+-- the answer that refuses a member list, or what comes after
+abbrev pub orElse : Judged → List ℕ → Result → Result
+orElse (Refused a) lent r = result a lent
+orElse Fine lent r = r
+
+-- j is what 2, 6 and 3 say of the list
+pub record JudgedBy (j : Judged) (ms : List ℕ) (d : ℕ) (t : Table) : Type 0 where
+  pub says : (lent : List ℕ) (r : Result) → orElse j lent r ≡ onMembers ms d t lent r
+  pub some : j ≡ Fine → 0 < length ms
+  pub short : j ≡ Fine → length ms ≤ limit
+
+-- the place of the first identical hyperedge, counted from i
+unfoldable pub firstIdenticalFrom : ℕ → List ℕ → ℕ → List Hyperedge → Found
+firstIdenticalFrom i ms w [] = Nothing
+firstIdenticalFrom i ms w (e ∷ es) = cond (identical ms w e) (At i) (firstIdenticalFrom (suc i) ms w es)
+
+unfoldable pub firstIdentical : List ℕ → ℕ → List Hyperedge → Found
+firstIdentical ms w es = firstIdenticalFrom zero ms w es
+
+-- add_hyperedge, where no hyperedge is identical: 7, 8
+unfoldable pub addNewResult : List ℕ → ℕ → List ℕ → Table → Result
+addNewResult ms w ws t =
+    onRoom (length (t .hyperedges)) hyperedgeLimit ws
+    (onNumber (t .nextHyperedge) ws
+    (result (Done (t .nextHyperedge)) (words limit (addHyperedge ms w t))))
+
+-- update_hyperedge_vertices, where the hyperedge is live: 5
+unfoldable pub updateLiveResult : ℕ → List ℕ → List ℕ → Table → Result
+updateLiveResult x ms ws t = onChanged x ms t ws (result (Done 0) (words limit (updateHyperedge x ms t)))

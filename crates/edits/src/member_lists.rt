@@ -1,0 +1,53 @@
+// What the edits test of a member list.
+ghost use mathlib.Core.Path.{_≡_};
+ghost use Rattle.lists.specs.Lists.{sameList};
+ghost use Rattle.layout.specs.Layout.{limit, read};
+ghost use Rattle.layout.specs.WellFormed.{Formed};
+ghost use Rattle.edits.specs.Stages.{JudgedBy};
+use layout::Answer;
+use layout::Found;
+use layout::VertexIndex;
+
+// What speaks against a member list: the answer that refuses it, or nothing.
+pub enum Judged {
+    Refused(Answer),
+    Fine,
+}
+
+// Tests 2, 6 and 3, in this order; d is the detail of 2.
+pub fn judge_members(t: &[u32], members: &[u32], d: u32) -> Judged
+    requires { ⌜ Formed limit (now t) ⌝ }
+    ensures { λ r. ⌜ JudgedBy r (now (members .entry)) d (read limit (now (t .entry))) ⌝ }
+{
+    if members.len() == 0 {
+        return Judged::Refused(Answer::NoMembers(d));
+    }
+    if layout::MEMBER_LIMIT < members.len() {
+        return Judged::Refused(Answer::TooManyMembers(members.len()));
+    }
+    let f = layout::first_missing_vertex(t, members);
+    match f {
+        Found::At(i) => {
+            let v = members[i];
+            Judged::Refused(Answer::VertexNotLive(VertexIndex(v)))
+        }
+        Found::Nothing => Judged::Fine,
+    }
+}
+
+// Whether the two lists are the same.
+pub fn same_members(a: &[u32], b: &[u32]) -> bool
+    ensures { λ r. ⌜ r ≡ sameList (now (a .entry)) (now (b .entry)) ⌝ }
+{
+    if a.len() != b.len() {
+        return false;
+    }
+    let mut i = 0;
+    while i < a.len() {
+        if a[i] != b[i] {
+            return false;
+        }
+        i += 1;
+    }
+    true
+}
