@@ -11,20 +11,19 @@ use borrow.Author.Tests.{eq-eqb, ne-eqb}
 use Rattle.lists.specs.Lists.{tab}
 use Rattle.lists.proofs.Cases.{on-below}
 use Rattle.lists.proofs.Tab.{tab-ext, tab-suc, length-tab}
-use Rattle.layout.specs.Content.{Hyperedge}
-use Rattle.layout.specs.Layout.{hyperedgeLimit, size, hyperedgeWord, nextHyperedgeIn, hyperedgeCount, hyperedgeAt, readHyperedges, read, words}
-use Rattle.layout.specs.WellFormed.{Formed}
-use Rattle.edits.specs.Edits.{addHyperedge}
-use Rattle.edits.specs.Records.{overAt, memberWords, putHyperedge, newHyperedge}
-use Rattle.edits.proofs.OverAt.{over-at-two}
-use Rattle.layout.specs.Layout.{limit}
 use Rattle.layout.specs.declared.Answer.{Answer}
 use Rattle.layout.specs.declared.Answer.the-variants.{Done, Full, NumbersSpent}
+use Rattle.layout.specs.Content.{Hyperedge}
+use Rattle.layout.specs.Layout.{hyperedgeLimit, size, hyperedgeWord, nextHyperedgeIn, hyperedgeCount, hyperedgeAt, readHyperedges, read, words, limit}
+use Rattle.layout.specs.WellFormed.{Formed}
 use Rattle.layout.specs.Answers.{Result, result}
 use Rattle.edits.specs.declared.member_lists.Judged.{Judged}
 use Rattle.edits.specs.declared.member_lists.Judged.the-variants.{Refused, Fine}
-use Rattle.edits.specs.Results.{lastNumber, onNew, addHyperedgeResult}
-use Rattle.edits.specs.Stages.{JudgedBy, addNewResult}
+use Rattle.edits.specs.Edits.{addHyperedge}
+use Rattle.edits.specs.Records.{overAt, memberWords, putHyperedge, newHyperedge}
+use Rattle.edits.specs.Results.{lastNumber, addHyperedgeResult}
+use Rattle.edits.specs.Stages.{JudgedBy, addNewResult, addJudgedResult}
+use Rattle.edits.proofs.OverAt.{over-at-two}
 use Rattle.edits.proofs.Refusals.{on-full, on-room, on-spent, on-number, on-refused, on-fine}
 use Rattle.edits.proofs.Put.{put-words}
 
@@ -97,7 +96,6 @@ module _ (ms : List ℕ) (w : ℕ) (ws : List ℕ) (j : Judged) (by : JudgedBy j
   unfolding addHyperedgeResult
   add-hyperedge-refused a h = on-refused j ms w (read limit ws) by a ws _ h
 
-  pub add-hyperedge-fine : (y : Result) → j ≡ Fine → y ≡ onNew ms w (readHyperedges limit ws) ws (addNewResult ms w ws (read limit ws))
-      → y ≡ addHyperedgeResult ms w ws (read limit ws)
-  unfolding addHyperedgeResult addNewResult
+  pub add-hyperedge-fine : (y : Result) → j ≡ Fine → y ≡ addJudgedResult ms w ws (read limit ws) → y ≡ addHyperedgeResult ms w ws (read limit ws)
+  unfolding addHyperedgeResult addJudgedResult addNewResult
   add-hyperedge-fine y h q = on-fine j ms w (read limit ws) by ws _ y h q

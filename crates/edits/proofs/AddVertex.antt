@@ -15,8 +15,8 @@ use Rattle.layout.specs.declared.Answer.the-variants.{Done, Full, NumbersSpent}
 use Rattle.layout.specs.Content.{Vertex}
 use Rattle.layout.specs.Layout.{limit, vertexLimit, recordSize, hyperedgesAt, size, vertexWord, hyperedgeWord, nextVertexIn, vertexCount, hyperedgeCount, vertexAt, hyperedgeAt, readVertices, readHyperedges, read, words}
 use Rattle.layout.specs.WellFormed.{recordShaped, unusedVertices, unusedHyperedges, Shaped, Formed}
-use Rattle.layout.proofs.Words.{words-of}
 use Rattle.layout.specs.Answers.{result}
+use Rattle.layout.proofs.Words.{words-of}
 use Rattle.edits.specs.Edits.{addVertex}
 use Rattle.edits.specs.Results.{lastNumber, addVertexResult}
 use Rattle.edits.specs.Records.{putVertex}

@@ -17,12 +17,12 @@ use Rattle.layout.specs.declared.Found.{Found}
 use Rattle.layout.specs.declared.Found.the-variants.{At, Nothing}
 use Rattle.layout.specs.declared.Answer.the-variants.{Done}
 use Rattle.layout.specs.Content.{Hyperedge}
-use Rattle.layout.specs.Layout.{limit, hyperedgeLimit, hyperedgeWord, hyperedgeCount, membersAt, hyperedgeAt, readHyperedges}
+use Rattle.layout.specs.Layout.{limit, hyperedgeLimit, hyperedgeWord, hyperedgeCount, membersAt, hyperedgeAt, readHyperedges, read}
 use Rattle.layout.specs.WellFormed.{Formed}
 use Rattle.layout.specs.Answers.{Result, result}
 use Rattle.layout.proofs.Back.{noHyperedge}
 use Rattle.edits.specs.Results.{identical, onNew}
-use Rattle.edits.specs.Stages.{firstIdenticalFrom, firstIdentical}
+use Rattle.edits.specs.Stages.{firstIdenticalFrom, firstIdentical, addNewResult, addJudgedResult}
 
 -- ---- the same list: a loop over i, with `drop i a` and `drop i b` left
 
@@ -109,9 +109,10 @@ module _ (ms : List ℕ) (w : ℕ) (ws : List ℕ) (p : Found) (e : p ≡ firstI
     pub identical-within : Formed limit ws → j < hyperedgeLimit
     identical-within f = omega (arith, found [] (result (Done 0) []) .0, f .shape .hyperedges-le)
 
-    pub on-identical : (lent : List ℕ) (r : Result) (x : ℕ) → x ≡ getD ws (hyperedgeWord limit j) 0 → result (Done x) lent ≡ onNew ms w (readHyperedges limit ws) lent r
-    on-identical lent r x q = rw q (found lent r .1)
+    pub on-identical : (x : ℕ) → x ≡ getD ws (hyperedgeWord limit j) 0 → result (Done x) ws ≡ addJudgedResult ms w ws (read limit ws)
+    unfolding addJudgedResult
+    on-identical x q = rw q (found ws _ .1)
 
-  pub on-new : (lent : List ℕ) (r y : Result) → p ≡ Nothing → y ≡ r → y ≡ onNew ms w (readHyperedges limit ws) lent r
-  unfolding firstIdentical
-  on-new lent r y h q = q ∙ from-new ms w lent r zero (readHyperedges limit ws) (sym e ∙ h)
+  pub on-new : (y : Result) → p ≡ Nothing → y ≡ addNewResult ms w ws (read limit ws) → y ≡ addJudgedResult ms w ws (read limit ws)
+  unfolding firstIdentical addJudgedResult
+  on-new y h q = q ∙ from-new ms w ws _ zero (readHyperedges limit ws) (sym e ∙ h)

@@ -7,6 +7,7 @@ use native.Mathlib.Omega.{arith}
 use lib.ListN.{length, getD, set, take, replicate, length-set, length-replicate, getD-replicate, drop-of-length-le}
 use lib.Seq.{take-suc, take-all, length-take-le}
 use Rattle.lists.specs.Lists.{over}
+use Rattle.layout.specs.Layout.{limit, hyperedgeLimit, size, hyperedgeWord}
 use Rattle.edits.specs.Records.{overAt, memberWords}
 use Rattle.edits.proofs.OverAt.{over-at-none, set-over-at, over-at-join, over-at-more}
 
@@ -45,12 +46,15 @@ pub zeros-all : (n : ℕ) (ws : List ℕ) → length ws ≡ n → overAt 0 (repl
 unfolding over overAt
 zeros-all n ws e = rw (length-replicate, drop-of-length-le ws {i = n} (omega arith), append-nil)
 
--- the count, the members, and 0 in the words behind them
-module _ (L : ℕ) (ms ws : List ℕ) (a : ℕ) (le : length ms ≤ L) (h : a + (1 + L) ≤ length ws) (B exit : List ℕ) where
-  pub members-stored : B ≡ overAt (a + 1) ms (set ws a (length ms)) → exit ≡ overAt (a + 1 + length ms) (replicate (L - length ms) 0) B → exit ≡ overAt a (memberWords L ms) ws
-  members-stored q r =
-      let e : a + 1 + length ms ≡ a + length (length ms ∷ ms) = omega arith in
-      let b : B ≡ overAt a (length ms ∷ ms) ws =
-      q ∙ ap (overAt (a + 1) ms) (set-over-at ws a (length ms) (omega arith)) ∙ over-at-join a (length ms ∷ []) ws (omega arith) ms in
-      r ∙ ap₂ (λ (k : ℕ) (l : List ℕ). overAt k (replicate (L - length ms) 0) l) e b
-      ∙ over-at-join a (length ms ∷ ms) ws (omega arith) (replicate (L - length ms) 0)
+-- for `search`: the count, the members, and 0 in the words behind them
+pub members-stored : (ms ws : List ℕ) (j : ℕ) (B exit : List ℕ) → length ws ≡ size limit → j < hyperedgeLimit → length ms ≤ limit
+    → B ≡ overAt (hyperedgeWord limit j + 2 + 1) ms (set ws (hyperedgeWord limit j + 2) (length ms))
+    → exit ≡ overAt (hyperedgeWord limit j + 2 + 1 + length ms) (replicate (limit - length ms) 0) B
+    → exit ≡ overAt (hyperedgeWord limit j + 2) (memberWords limit ms) ws
+members-stored ms ws j B exit len h le q r =
+    let a : ℕ = hyperedgeWord limit j + 2 in
+    let e : a + 1 + length ms ≡ a + length (length ms ∷ ms) = omega arith in
+    let b : B ≡ overAt a (length ms ∷ ms) ws =
+    q ∙ ap (overAt (a + 1) ms) (set-over-at ws a (length ms) (omega arith)) ∙ over-at-join a (length ms ∷ []) ws (omega arith) ms in
+    r ∙ ap₂ (λ (k : ℕ) (l : List ℕ). overAt k (replicate (limit - length ms) 0) l) e b
+    ∙ over-at-join a (length ms ∷ ms) ws (omega arith) (replicate (limit - length ms) 0)

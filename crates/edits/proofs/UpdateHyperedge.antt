@@ -8,40 +8,35 @@ use native.Mathlib.Omega.{arith}
 use lib.ListN.{length, getD, set}
 use lib.Seq.{set-getD}
 use borrow.Author.Tests.{eq-eqb, ne-eqb}
+use Rattle.lists.specs.Lists.{sameList}
 use Rattle.lists.proofs.Cases.{on-same}
 use Rattle.lists.proofs.Tab.{map-tab, length-tab, getD-tab}
 use Rattle.lists.proofs.Ascend.{ascending-apart}
 use Rattle.lists.proofs.Flat.{length-pad}
-use Rattle.layout.specs.Content.{Hyperedge}
-use Rattle.layout.specs.Layout.{hyperedgeLimit, recordSize, hyperedgeWord, hyperedgeCount, membersAt, hyperedgeAt, readHyperedges, read, hyperedgeWords, words}
-use Rattle.layout.specs.WellFormed.{Formed, hyperedgeColumn}
-use Rattle.edits.specs.Edits.{withMembers, updateHyperedge}
-use Rattle.edits.specs.Records.{overAt, memberWords, putHyperedge, newHyperedge}
-use Rattle.edits.proofs.OverAt.{over-at-before, over-at-keep}
-use Rattle.edits.proofs.Kept.{record-within}
-use Rattle.layout.specs.Layout.{limit}
 use Rattle.layout.specs.declared.Found.{Found}
 use Rattle.layout.specs.declared.Found.the-variants.{At, Nothing}
 use Rattle.layout.specs.declared.Answer.{Answer}
 use Rattle.layout.specs.declared.Answer.the-variants.{Done, SameMembers}
-use Rattle.layout.specs.Content.{hyperedgeNumber, liveHyperedges, position, positionFrom}
-use Rattle.layout.specs.Answers.{Result, result, onLiveHyperedge, hyperedgeMissing}
+use Rattle.layout.specs.Content.{Hyperedge, hyperedgeNumber, liveHyperedges, position, positionFrom}
+use Rattle.layout.specs.Layout.{hyperedgeLimit, recordSize, hyperedgeWord, hyperedgeCount, membersAt, hyperedgeAt, readHyperedges, read, hyperedgeWords, words, limit}
+use Rattle.layout.specs.WellFormed.{Formed, hyperedgeColumn}
+use Rattle.layout.specs.Answers.{Result, result, hyperedgeMissing}
 use Rattle.layout.proofs.Back.{noHyperedge}
 use Rattle.layout.proofs.Read.{hyperedge-found}
 use Rattle.layout.proofs.Answers.{on-missing, on-found}
-use Rattle.lists.specs.Lists.{sameList}
 use Rattle.edits.specs.declared.member_lists.Judged.{Judged}
 use Rattle.edits.specs.declared.member_lists.Judged.the-variants.{Refused, Fine}
+use Rattle.edits.specs.Edits.{withMembers, updateHyperedge}
+use Rattle.edits.specs.Records.{overAt, memberWords, putHyperedge, newHyperedge}
 use Rattle.edits.specs.Results.{membersOf, onChanged, updateResult}
-use Rattle.edits.specs.Stages.{JudgedBy, updateLiveResult}
+use Rattle.edits.specs.Stages.{JudgedBy, updateLiveResult, updateJudgedResult}
+use Rattle.edits.proofs.OverAt.{over-at-before, over-at-keep}
+use Rattle.edits.proofs.Kept.{record-within}
 use Rattle.edits.proofs.Refusals.{on-refused, on-fine}
 use Rattle.edits.proofs.Put.{put-words}
 
 module _ (L : ℕ) (ws : List ℕ) (j x : ℕ) (ms : List ℕ) (f : Formed L ws) (pos : 0 < length ms) (le : length ms ≤ L)
     (hj : j < hyperedgeCount ws) (ex : getD ws (hyperedgeWord L j) 0 ≡ x) where
-  a : ℕ
-  a = hyperedgeWord L j
-
   changed : Hyperedge
   changed = newHyperedge (getD ws (hyperedgeWord L j) 0) (getD ws (hyperedgeWord L j + 1) 0) ms
 
@@ -131,11 +126,12 @@ module _ (x : ℕ) (ms ws : List ℕ) (p : Found) (e : p ≡ position x (liveHyp
   pub update-found : (j : ℕ) → p ≡ At j → position x (liveHyperedges (read limit ws)) ≡ At j
   update-found j h = sym e ∙ h
 
-  pub update-missing : p ≡ Nothing → result (hyperedgeMissing x) ws ≡ onLiveHyperedge (read limit ws) x ws (updateLiveResult x ms ws (read limit ws))
+  pub update-missing : p ≡ Nothing → result (hyperedgeMissing x) ws ≡ updateJudgedResult x ms ws (read limit ws)
+  unfolding updateJudgedResult
   update-missing h = on-missing (liveHyperedges (read limit ws)) hyperedgeMissing x ws _ p e h
 
-  pub update-live : (j : ℕ) (y : Result) → p ≡ At j → y ≡ updateLiveResult x ms ws (read limit ws)
-      → y ≡ onLiveHyperedge (read limit ws) x ws (updateLiveResult x ms ws (read limit ws))
+  pub update-live : (j : ℕ) (y : Result) → p ≡ At j → y ≡ updateLiveResult x ms ws (read limit ws) → y ≡ updateJudgedResult x ms ws (read limit ws)
+  unfolding updateJudgedResult
   update-live j y h q = q ∙ on-found (liveHyperedges (read limit ws)) hyperedgeMissing x ws _ p e j h
 
 -- j is what `judge_members` said
@@ -144,7 +140,6 @@ module _ (x : ℕ) (ms ws : List ℕ) (j : Judged) (by : JudgedBy j ms x (read l
   unfolding updateResult
   update-refused a h = on-refused j ms x (read limit ws) by a ws _ h
 
-  pub update-fine : (y : Result) → j ≡ Fine → y ≡ onLiveHyperedge (read limit ws) x ws (updateLiveResult x ms ws (read limit ws))
-      → y ≡ updateResult x ms ws (read limit ws)
-  unfolding updateResult updateLiveResult
+  pub update-fine : (y : Result) → j ≡ Fine → y ≡ updateJudgedResult x ms ws (read limit ws) → y ≡ updateResult x ms ws (read limit ws)
+  unfolding updateResult updateJudgedResult updateLiveResult
   update-fine y h q = on-fine j ms x (read limit ws) by ws _ y h q

@@ -9,11 +9,11 @@ use Rattle.layout.specs.declared.Found.the-variants.{At, Nothing}
 use Rattle.layout.specs.declared.Answer.the-variants.{Done}
 use Rattle.layout.specs.Content.{Hyperedge, Table}
 use Rattle.layout.specs.Layout.{limit, hyperedgeLimit, words}
-use Rattle.layout.specs.Answers.{Result, result, onLiveVertices}
+use Rattle.layout.specs.Answers.{Result, result, onLiveVertices, onLiveHyperedge}
 use Rattle.edits.specs.declared.member_lists.Judged.{Judged}
 use Rattle.edits.specs.declared.member_lists.Judged.the-variants.{Refused, Fine}
 use Rattle.edits.specs.Edits.{addHyperedge, updateHyperedge}
-use Rattle.edits.specs.Results.{onSome, onShort, onRoom, onNumber, identical, onChanged}
+use Rattle.edits.specs.Results.{onSome, onShort, onRoom, onNumber, identical, onNew, onChanged}
 
 -- 2, 6, 3
 abbrev pub onMembers : List ℕ → ℕ → Table → List ℕ → Result → Result
@@ -45,6 +45,14 @@ addNewResult ms w ws t =
     (onNumber (t .nextHyperedge) ws
     (result (Done (t .nextHyperedge)) (words limit (addHyperedge ms w t))))
 
+-- add_hyperedge, where 2, 6 and 3 refuse nothing: an identical one, then 7, 8
+unfoldable pub addJudgedResult : List ℕ → ℕ → List ℕ → Table → Result
+addJudgedResult ms w ws t = onNew ms w (t .hyperedges) ws (addNewResult ms w ws t)
+
 -- update_hyperedge_vertices, where the hyperedge is live: 5
 unfoldable pub updateLiveResult : ℕ → List ℕ → List ℕ → Table → Result
 updateLiveResult x ms ws t = onChanged x ms t ws (result (Done 0) (words limit (updateHyperedge x ms t)))
+
+-- update_hyperedge_vertices, where 2, 6 and 3 refuse nothing: 4, 5
+unfoldable pub updateJudgedResult : ℕ → List ℕ → List ℕ → Table → Result
+updateJudgedResult x ms ws t = onLiveHyperedge t x ws (updateLiveResult x ms ws t)

@@ -5,9 +5,9 @@ ghost use lib.ListN.{length};
 ghost use Rattle.layout.specs.Layout.{limit, hyperedgeLimit, size, hyperedgeCount, hyperedgeAt, readHyperedges, read};
 ghost use Rattle.layout.specs.WellFormed.{Formed};
 ghost use Rattle.layout.specs.Answers.{onFormed, result};
-ghost use Rattle.edits.specs.Results.{lastNumber, identical, onNew, addHyperedgeResult};
+ghost use Rattle.edits.specs.Results.{lastNumber, identical, addHyperedgeResult};
 ghost use Rattle.edits.specs.Records.{newHyperedge, putHyperedge};
-ghost use Rattle.edits.specs.Stages.{firstIdentical, addNewResult};
+ghost use Rattle.edits.specs.Stages.{firstIdentical, addNewResult, addJudgedResult};
 use crate::member_lists::Judged;
 use crate::member_lists::judge_members;
 use crate::member_lists::same_members;
@@ -80,7 +80,7 @@ fn find_identical(t: &[u32], members: &[u32], weight: u32) -> Found
 fn add_judged(t: &mut [u32], members: &[u32], weight: u32) -> Answer
     requires { ⌜ Formed limit (now t) ⌝ }
     requires { ⌜ (0 < length (now members)) × (length (now members) ≤ limit) ⌝ }
-    ensures { λ r. ⌜ result r (now (t .exit)) ≡ onNew (now (members .entry)) weight (readHyperedges limit (now (t .entry))) (now (t .entry)) (addNewResult (now (members .entry)) weight (now (t .entry)) (read limit (now (t .entry)))) ⌝ }
+    ensures { λ r. ⌜ result r (now (t .exit)) ≡ addJudgedResult (now (members .entry)) weight (now (t .entry)) (read limit (now (t .entry))) ⌝ }
 {
     let f = find_identical(t, members, weight);
     match f {

@@ -6,9 +6,9 @@ ghost use Rattle.layout.specs.declared.Found.the-variants.{At};
 ghost use Rattle.layout.specs.Content.{liveHyperedges, position};
 ghost use Rattle.layout.specs.Layout.{limit, read};
 ghost use Rattle.layout.specs.WellFormed.{Formed};
-ghost use Rattle.layout.specs.Answers.{onFormed, result, onLiveHyperedge};
+ghost use Rattle.layout.specs.Answers.{onFormed, result};
 ghost use Rattle.edits.specs.Results.{updateResult};
-ghost use Rattle.edits.specs.Stages.{updateLiveResult};
+ghost use Rattle.edits.specs.Stages.{updateLiveResult, updateJudgedResult};
 use crate::member_lists::Judged;
 use crate::member_lists::judge_members;
 use crate::member_lists::same_members;
@@ -35,7 +35,7 @@ fn update_at(t: &mut [u32], e: HyperedgeIndex, j: usize, members: &[u32]) -> Ans
 fn update_judged(t: &mut [u32], e: HyperedgeIndex, members: &[u32]) -> Answer
     requires { ⌜ Formed limit (now t) ⌝ }
     requires { ⌜ (0 < length (now members)) × (length (now members) ≤ limit) ⌝ }
-    ensures { λ r. ⌜ result r (now (t .exit)) ≡ onLiveHyperedge (read limit (now (t .entry))) (e .0) (now (t .entry)) (updateLiveResult (e .0) (now (members .entry)) (now (t .entry)) (read limit (now (t .entry)))) ⌝ }
+    ensures { λ r. ⌜ result r (now (t .exit)) ≡ updateJudgedResult (e .0) (now (members .entry)) (now (t .entry)) (read limit (now (t .entry))) ⌝ }
 {
     let f = layout::find_hyperedge(t, e);
     match f {

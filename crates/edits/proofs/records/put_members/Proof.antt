@@ -2,7 +2,6 @@
 use mathlib.Core.Path.{_∙_}
 use native.Mathlib.Omega.{arith}
 use lib.ListN.{length-set}
-use Rattle.layout.specs.Layout.{limit}
 use Rattle.edits.proofs.Stored.{members-stored}
 use borrow.Author.Needs.{needs}
 use Rattle.edits.proofs.records.put_members.Statement.{statement}
@@ -48,7 +47,7 @@ same-length : tie.Need-same-length
 same-length c = simp length-set at (c .before .before .store-zeros .kept .0 ∙ c .before .before .before .before .before .before .store .kept .0)
 
 returns : tie.Need-returns
-returns c = members-stored limit _ _ _ (search needs) (omega arith) _ _ (c .before .before .before .before .before .before .store .ensures) (c .before .before .store-zeros .ensures)
+returns c = search members-stored
 
 pub put-members-spec : {M : Type 1} → statement M
 put-members-spec =
