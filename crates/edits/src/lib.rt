@@ -1,1 +1,3 @@
 // The edits, a file for each.
+pub mod remove_hyperedge;
+pub mod shift;
