@@ -13,18 +13,19 @@ use Rattle.lists.proofs.Flat.{Uniform, length-pad}
 use Rattle.layout.specs.declared.Found.{Found}
 use Rattle.layout.specs.declared.Found.the-variants.{At, Nothing}
 use Rattle.layout.specs.declared.Answer.the-variants.{Done, HyperedgeNotLive}
-use Rattle.layout.specs.Content.{Hyperedge, hyperedgeNumber, liveHyperedges, position}
-use Rattle.layout.specs.Layout.{limit, hyperedgeLimit, recordSize, hyperedgesAt, hyperedgeCount, hyperedgeAt, readHyperedges, read, hyperedgeWords, words}
+use Rattle.layout.specs.Content.{Hyperedge, vertexNumber, hyperedgeNumber, liveVertices, liveHyperedges, position}
+use Rattle.layout.specs.Layout.{limit, vertexLimit, vertexSize, recordSize, verticesAt, hyperedgesAt, vertexCount, hyperedgeCount, vertexAt, hyperedgeAt, readVertices, readHyperedges, read, hyperedgeWords, words}
 use Rattle.layout.specs.WellFormed.{Formed}
-use Rattle.layout.specs.Answers.{result, hyperedgeMissing}
-use Rattle.layout.proofs.Back.{noHyperedge}
+use Rattle.layout.specs.Answers.{result, vertexMissing, hyperedgeMissing}
+use Rattle.layout.proofs.Back.{noVertex, noHyperedge}
 use Rattle.layout.proofs.Position.{position-found}
-use Rattle.layout.proofs.Read.{live-hyperedges, hyperedge-found, members-le}
+use Rattle.layout.proofs.Read.{live-hyperedges, live-ascends, vertex-found, hyperedge-found, members-le}
 use Rattle.layout.proofs.Words.{words-read}
 use Rattle.layout.proofs.Answers.{on-missing, on-found}
-use Rattle.edits.specs.Edits.{removeHyperedge}
-use Rattle.edits.specs.Results.{removeHyperedgeResult}
-use Rattle.edits.proofs.Laid.{hyperedge-out}
+use Rattle.edits.specs.Edits.{removeVertex, removeHyperedge}
+use Rattle.edits.specs.Removing.{stripped, stripVertex}
+use Rattle.edits.specs.Results.{removeVertexResult, removeHyperedgeResult}
+use Rattle.edits.proofs.Laid.{hyperedge-out, vertex-out}
 
 -- of ascending keys only the one found is k
 pub found-out : {A : Type 0} (f : A → ℕ) (xs : List A) (d : A) → f d ≡ 0 → Ascending (map f xs) → (k j : ℕ) → position k (map f xs) ≡ At j
@@ -57,6 +58,17 @@ module _ (L : ℕ) (ws : List ℕ) (f : Formed L ws) where
       ∙ hyperedge-out L (read L ws) (rw length-tab (f .shape .vertices-le)) j (rw n (g .0)) (rw n (f .shape .hyperedges-le)) hyperedges-uniform
       ∙ rw (found-out hyperedgeNumber (readHyperedges L ws) noHyperedge refl (rw (live-hyperedges L ws) (f .hyperedges-ascend)) x j e)
 
+  -- the vertex, from the table that lists it no more
+  vertex-dropped : (x i n : ℕ) (ws₁ : List ℕ) → position x (liveVertices (read L ws)) ≡ At i → n ≡ vertexCount ws → ws₁ ≡ words L (stripVertex x (read L ws))
+      → set (take verticesAt ws₁ ++ (shifted (take (vertexLimit * vertexSize) (drop verticesAt ws₁)) (i * vertexSize) vertexSize ++ drop hyperedgesAt ws₁)) 2 (n - 1) ≡ words L (removeVertex x (read L ws))
+  unfolding removeVertex stripVertex stripped
+  vertex-dropped x i n ws₁ e en e₁ =
+      let len : length (readVertices ws) ≡ vertexCount ws = length-tab (vertexAt ws) (vertexCount ws) in
+      ap₂ (λ (l : List ℕ) (k : ℕ). set (take verticesAt l ++ (shifted (take (vertexLimit * vertexSize) (drop verticesAt l)) (i * vertexSize) vertexSize ++ drop hyperedgesAt l)) 2 (k - 1))
+      e₁ (en ∙ sym len)
+      ∙ vertex-out L (stripVertex x (read L ws)) (rw len (f .shape .vertices-le)) i (rw len (vertex-found L ws x i e .0))
+      ∙ rw (found-out vertexNumber (readVertices ws) noVertex refl (live-ascends L ws f) x i e)
+
 -- ---- for `search`: p is what `find_hyperedge` found, m the count, ws′ the words after `drop_hyperedge`
 module _ (x : ℕ) (ws : List ℕ) (p : Found) (q : p ≡ position x (liveHyperedges (read limit ws))) where
   pub hyperedge-none : p ≡ Nothing → result (hyperedgeMissing x) ws ≡ removeHyperedgeResult x ws (read limit ws)
@@ -74,3 +86,21 @@ module _ (x : ℕ) (ws : List ℕ) (p : Found) (q : p ≡ position x (liveHypere
     hyperedge-done f ws′ d =
         ap (result (Done 0)) (d ∙ hyperedge-dropped limit ws f x j m (sym q ∙ h) e)
         ∙ on-found (liveHyperedges (read limit ws)) hyperedgeMissing x ws _ p q j h
+
+-- p is what `find_vertex` found, n the count, ws₁ the words after `strip_vertex`, ws₂ those after `drop_vertex`
+module _ (x : ℕ) (ws : List ℕ) (p : Found) (q : p ≡ position x (liveVertices (read limit ws))) where
+  pub vertex-none : p ≡ Nothing → result (vertexMissing x) ws ≡ removeVertexResult x ws (read limit ws)
+  unfolding removeVertexResult
+  vertex-none h = on-missing (liveVertices (read limit ws)) vertexMissing x ws _ p q h
+
+  module _ (i : ℕ) (h : p ≡ At i) (n : ℕ) (e : n ≡ vertexCount ws) where
+    pub vertex-below : i < n
+    vertex-below = rw e (vertex-found limit ws x i (sym q ∙ h) .0)
+
+    pub vertex-done : Formed limit ws → (ws₁ ws₂ : List ℕ) → ws₁ ≡ words limit (stripVertex x (read limit ws))
+        → ws₂ ≡ set (take verticesAt ws₁ ++ (shifted (take (vertexLimit * vertexSize) (drop verticesAt ws₁)) (i * vertexSize) vertexSize ++ drop hyperedgesAt ws₁)) 2 (n - 1)
+        → result (Done 0) ws₂ ≡ removeVertexResult x ws (read limit ws)
+    unfolding removeVertexResult
+    vertex-done f ws₁ ws₂ d₁ d₂ =
+        ap (result (Done 0)) (d₂ ∙ vertex-dropped limit ws f x i n ws₁ (sym q ∙ h) e d₁)
+        ∙ on-found (liveVertices (read limit ws)) vertexMissing x ws _ p q i h
