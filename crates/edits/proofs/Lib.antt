@@ -1,4 +1,3 @@
-pub mod Holdable
 pub mod OverAt
 pub mod Stored
 pub mod Kept
@@ -10,3 +9,9 @@ pub mod Identical
 pub mod Refusals
 pub mod AddHoldable
 pub mod StaysFormed
+pub mod Copied
+pub mod Laid
+pub mod Dropped
+pub mod OthersKept
+pub mod Stripped
+pub mod Holdable

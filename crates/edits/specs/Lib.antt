@@ -2,3 +2,4 @@ pub mod Edits
 pub mod Results
 pub mod Records
 pub mod Stages
+pub mod Removing

@@ -4,4 +4,7 @@ pub mod add_vertex;
 pub mod hypergraph;
 pub mod member_lists;
 pub mod records;
+pub mod remove_hyperedge;
+pub mod remove_vertex;
+pub mod shift;
 pub mod update_hyperedge_vertices;

@@ -1,0 +1,41 @@
+// Words moved down, and words cleared.
+ghost use mathlib.Core.Path.{_≡_};
+ghost use Prim.Native.Nat.{_+_, _-_, _≤_};
+ghost use lib.ListN.{length, drop, replicate};
+ghost use lib.Seq.{paste};
+ghost use Rattle.lists.specs.Lists.{shifted};
+
+// Stores 0 in the k words from a on.
+pub fn clear_words(s: &mut [u32], a: usize, k: usize)
+    requires { ⌜ a + k ≤ length (now s) ⌝ }
+    ensures { λ _. ⌜ now (s .exit) ≡ paste (now (s .entry)) a (replicate k 0) k ⌝ }
+{
+    let mut j = 0;
+    while j < k {
+        s[a + j] = 0;
+        j += 1;
+    }
+}
+
+// Moves what is behind a + k down to a.
+fn move_down(s: &mut [u32], a: usize, k: usize)
+    requires { ⌜ a + k ≤ length (now s) ⌝ }
+    ensures { λ _. ⌜ now (s .exit) ≡ paste (now (s .entry)) a (drop (a + k) (now (s .entry))) (length (now (s .entry)) - (a + k)) ⌝ }
+{
+    let n = s.len() - (a + k);
+    let mut j = 0;
+    while j < n {
+        s[a + j] = s[a + k + j];
+        j += 1;
+    }
+}
+
+// Takes out the k words from a on.
+pub fn shift_down(s: &mut [u32], a: usize, k: usize)
+    requires { ⌜ a + k ≤ length (now s) ⌝ }
+    ensures { λ _. ⌜ now (s .exit) ≡ shifted (now (s .entry)) a k ⌝ }
+{
+    move_down(s, a, k);
+    let e = s.len() - k;
+    clear_words(s, e, k);
+}
