@@ -10,10 +10,10 @@ pub fn clear_words(s: &mut [u32], a: usize, k: usize)
     requires { ⌜ a + k ≤ length (now s) ⌝ }
     ensures { λ _. ⌜ now (s .exit) ≡ paste (now (s .entry)) a (replicate k 0) k ⌝ }
 {
-    let mut j = 0;
-    while j < k {
-        s[a + j] = 0;
-        j += 1;
+    let mut i = 0;
+    while i < k {
+        s[a + i] = 0;
+        i += 1;
     }
 }
 

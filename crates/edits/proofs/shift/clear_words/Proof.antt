@@ -1,4 +1,4 @@
--- `edits::shift::clear_words` meets its contract: after j turns j words are 0. Assumes nothing.
+-- `edits::shift::clear_words` meets its contract: after i turns i words are 0. Assumes nothing.
 use Prim.Native.Nat.{_≤_, _-_}
 use lib.ListN.{replicate}
 use Rattle.edits.proofs.Copied.{Copied, copied-none, cleared-more, copied-all}
@@ -8,10 +8,10 @@ use Rattle.edits.proofs.shift.clear_words.Statement.{statement}
 use Rattle.edits.proofs.shift.clear_words.Tie as tie
 
 abbrev Inv-loop : tie.InvT-loop
-Inv-loop s₀ a k j₀ s j = (j ≤ k) × Copied s₀ a (replicate k 0) j s
+Inv-loop s₀ a k i₀ s i = (i ≤ k) × Copied s₀ a (replicate k 0) i s
 
 abbrev μ-loop : tie.MeasureT-loop
-μ-loop s₀ a k j₀ s j = k - j
+μ-loop s₀ a k i₀ s i = k - i
 
 loop-holds : tie.Need-loop-holds Inv-loop μ-loop
 loop-holds c = (search needs, copied-none _ _ _)
@@ -25,8 +25,8 @@ mul-s c = search needs
 slice-write-s : tie.Need-slice-write-s Inv-loop μ-loop
 slice-write-s c = search needs
 
-add-j : tie.Need-add-j Inv-loop μ-loop
-add-j c = search needs
+add-i : tie.Need-add-i Inv-loop μ-loop
+add-i c = search needs
 
 loop-less : tie.Need-loop-less Inv-loop μ-loop
 loop-less c = search needs
@@ -50,7 +50,7 @@ clear-words-spec =
     add-s
     mul-s
     slice-write-s
-    add-j
+    add-i
     loop-less
     loop-again
     same-length

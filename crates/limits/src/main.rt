@@ -1,0 +1,136 @@
+// Runs the edits at their limits. A line for each call: what was asked, then the answer's number and detail.
+use edits::add_hyperedge::add_hyperedge;
+use edits::add_vertex::add_vertex;
+use edits::hypergraph::clear;
+use edits::hypergraph::is_empty;
+use edits::remove_hyperedge::remove_hyperedge;
+use edits::remove_vertex::remove_vertex;
+use edits::update_hyperedge_vertices::update_hyperedge_vertices as update;
+use layout::Answer;
+use layout::HyperedgeIndex;
+use layout::VertexIndex;
+use libc::STDOUT_FILENO;
+
+fn say(what: &[u8], a: Answer) {
+    let r = layout::reply_of(a);
+    io::write_all(STDOUT_FILENO, what);
+    io::write_all(STDOUT_FILENO, b": ");
+    io::print_decimal(STDOUT_FILENO, r.number as u64);
+    io::write_all(STDOUT_FILENO, b" ");
+    io::print_decimal(STDOUT_FILENO, r.detail);
+    io::write_all(STDOUT_FILENO, b"\n");
+}
+
+// Adds vertices until 256 are live.
+fn add_vertices(t: &mut [u32]) {
+    let mut i = 0;
+    while i < layout::VERTEX_LIMIT {
+        add_vertex(t, 7);
+        i += 1;
+    }
+}
+
+// Adds the lists 0, 0 and 0, 1 and so on, of weight 5, until 192 hyperedges are live.
+fn add_hyperedges(t: &mut [u32]) {
+    let mut j: u32 = 0;
+    while j < 192 {
+        let list = [0, j];
+        add_hyperedge(t, &list, 5);
+        j += 1;
+    }
+}
+
+fn vertices() {
+    let mut t = [0u32; 7236];
+    say(b"empty table, empty", is_empty(&t));
+    say(b"first vertex", add_vertex(&mut t, 7));
+    say(b"one vertex, empty", is_empty(&t));
+    add_vertices(&mut t);
+    say(b"vertex 257", add_vertex(&mut t, 7));
+}
+
+fn lists() {
+    let mut t = [0u32; 7236];
+    let longest = [3u32; 32];
+    let longer = [3u32; 33];
+    let unknown = [3u32, 256, 257];
+    add_vertices(&mut t);
+    say(b"33 members", add_hyperedge(&mut t, &longer, 5));
+    say(b"no members, weight 9", add_hyperedge(&mut t, &longer[..0], 9));
+    say(b"members 256 and 257 unknown", add_hyperedge(&mut t, &unknown, 5));
+    say(b"32 members", add_hyperedge(&mut t, &longest, 5));
+    say(b"the same again", add_hyperedge(&mut t, &longest, 5));
+}
+
+fn hyperedges() {
+    let mut t = [0u32; 7236];
+    let last = [0u32, 191];
+    let further = [1u32, 2];
+    add_vertices(&mut t);
+    add_hyperedges(&mut t);
+    say(b"hyperedge 193", add_hyperedge(&mut t, &further, 5));
+    say(b"one that is there, table full", add_hyperedge(&mut t, &last, 5));
+    say(b"the same list, another weight", add_hyperedge(&mut t, &last, 6));
+}
+
+fn updates() {
+    let mut t = [0u32; 7236];
+    let first = [0u32, 0];
+    let further = [1u32, 2];
+    add_vertices(&mut t);
+    add_hyperedges(&mut t);
+    say(b"update, unknown, no members", update(&mut t, HyperedgeIndex(192), &first[..0]));
+    say(b"update, unknown", update(&mut t, HyperedgeIndex(192), &further));
+    say(b"update to the list that it has", update(&mut t, HyperedgeIndex(0), &first));
+    say(b"update", update(&mut t, HyperedgeIndex(0), &further));
+    say(b"update to the same again", update(&mut t, HyperedgeIndex(0), &further));
+}
+
+fn removals() {
+    let mut t = [0u32; 7236];
+    let alone = [3u32, 3];
+    add_vertices(&mut t);
+    say(b"list 3, 3", add_hyperedge(&mut t, &alone, 5));
+    say(b"remove vertex 3", remove_vertex(&mut t, VertexIndex(3)));
+    say(b"remove vertex 3 again", remove_vertex(&mut t, VertexIndex(3)));
+    say(b"remove the list that held it alone", remove_hyperedge(&mut t, HyperedgeIndex(0)));
+    say(b"vertex after a removal", add_vertex(&mut t, 7));
+}
+
+// The next number of each kind at its end.
+fn numbers_spent() {
+    let mut t = [0u32; 7236];
+    let only = [4294967294u32];
+    t[0] = 4294967294;
+    t[1] = 4294967294;
+    say(b"last vertex number", add_vertex(&mut t, 7));
+    say(b"vertex numbers spent", add_vertex(&mut t, 7));
+    say(b"last hyperedge number", add_hyperedge(&mut t, &only, 5));
+    say(b"hyperedge numbers spent", add_hyperedge(&mut t, &only, 6));
+    say(b"the one that is there", add_hyperedge(&mut t, &only, 5));
+}
+
+fn not_formed() {
+    let mut t = [0u32; 7236];
+    t[7235] = 1;
+    say(b"last word not 0, vertex", add_vertex(&mut t, 7));
+    say(b"last word not 0, clear", clear(&mut t));
+    say(b"cleared, vertex", add_vertex(&mut t, 7));
+}
+
+fn short() {
+    let mut t = [0u32; 7235];
+    say(b"a word short, clear", clear(&mut t));
+    say(b"a word short, vertex", add_vertex(&mut t, 7));
+}
+
+fn main() {
+    vertices();
+    lists();
+    hyperedges();
+    updates();
+    removals();
+    numbers_spent();
+    not_formed();
+    short();
+}
