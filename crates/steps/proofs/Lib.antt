@@ -1,0 +1,4 @@
+pub mod Any
+pub mod Holds
+pub mod Members
+pub mod Drawing
