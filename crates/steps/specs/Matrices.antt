@@ -23,11 +23,15 @@ listsBoth x y e = lists x e and lists y e
 unfoldable pub together : Table → ℕ → ℕ → Bool
 together t x y = any (listsBoth x y) (t .hyperedges)
 
+-- a relation given by a test
+abbrev pub Related : (ℕ → ℕ → Bool) → ℕ → ℕ → Type 0
+Related R x y = R x y ≡ true
+
 abbrev pub LinkIn : Table → ℕ → ℕ → Type 0
-LinkIn t x y = linked t x y ≡ true
+LinkIn t = Related (linked t)
 
 abbrev pub TogetherIn : Table → ℕ → ℕ → Type 0
-TogetherIn t x y = together t x y ≡ true
+TogetherIn t = Related (together t)
 
 -- the number of the vertex in record k
 abbrev pub numberOf : Table → ℕ → ℕ
