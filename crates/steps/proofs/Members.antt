@@ -36,12 +36,11 @@ module _ (L : ℕ) (ws : List ℕ) (f : Formed L ws) (j : ℕ) (h : j < hyperedg
 
 -- ---- for `search`: p is what `find_vertex` returned
 
-module _ (live : List ℕ) (x : ℕ) (p : Found) (e : p ≡ position x live) (l : isLive live x ≡ true) where
-  pub place-here : (i : ℕ) → p ≡ At i → position x live ≡ At i
-  place-here i h = sym e ∙ h
+pub place-here : (live : List ℕ) (x : ℕ) (p : Found) → p ≡ position x live → (i : ℕ) → p ≡ At i → position x live ≡ At i
+place-here live x p e i h = sym e ∙ h
 
-  pub place-nowhere : {i : ℕ} → p ≡ Nothing → position x live ≡ At i
-  place-nowhere h = clash l (missing-dead x live (sym e ∙ h))
+pub place-nowhere : (live : List ℕ) (x : ℕ) (p : Found) → p ≡ position x live → isLive live x ≡ true → {i : ℕ} → p ≡ Nothing → position x live ≡ At i
+place-nowhere live x p e l h = clash l (missing-dead x live (sym e ∙ h))
 
 pub place-below : (L : ℕ) (ws : List ℕ) → Formed L ws → (x a : ℕ) → position x (liveVertices (read L ws)) ≡ At a → a < vertexLimit
 place-below L ws f x a e = omega (arith, vertex-found L ws x a e .0, f .shape .vertices-le)

@@ -1,0 +1,4 @@
+pub mod Ext
+pub mod Mapped
+pub mod Reaching
+pub mod Walks
