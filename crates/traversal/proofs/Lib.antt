@@ -2,3 +2,4 @@ pub mod Ext
 pub mod Mapped
 pub mod Reaching
 pub mod Walks
+pub mod Listing

@@ -1,1 +1,2 @@
 pub mod Traversal
+pub mod Ordered
