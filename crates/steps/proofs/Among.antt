@@ -1,18 +1,18 @@
 -- Relations that hold of live vertices alone: steps, turned steps, links, co-membership. Assumes nothing.
 use mathlib.Core.Path.{_≡_, refl, sym, ap, _∙_}
-use mathlib.Core.Bool.{Bool, true, _||_}
+use mathlib.Core.Bool.{Bool, true}
 use mathlib.Core.Logic.{⊎-elim}
 use mathlib.Core.List.{List, [], _∷_}
 use Prim.Native.Nat.{ℕ, _<_}
 use lib.Dec.{eqb}
 use lib.ListN.{length, getD}
-use borrow.Author.Tests.{eq-eqb, eqb-true}
+use borrow.Author.Tests.{eqb-true}
 use Rattle.lists.specs.Tests.{_and_}
 use Rattle.lists.specs.Lists.{any, memb, Ascending}
 use Rattle.lists.proofs.Cases.{clash, or-true, or-right, and-left, and-right, and-both}
 use Rattle.lists.proofs.All.{all-at}
 use Rattle.lists.proofs.Memb.{memb-self, memb-at}
-use Rattle.layout.specs.Content.{Hyperedge, Table, liveVertices, isLive, lists, membersLive, valid}
+use Rattle.layout.specs.Content.{Hyperedge, Table, liveVertices, isLive, membersLive, valid}
 use Rattle.layout.specs.Steps.{stepsOf, isStep, makesStep, hasStep}
 use Rattle.layout.proofs.Read.{numbered-ascends}
 use Rattle.steps.specs.Matrices.{linked, listsBoth, together, turned}

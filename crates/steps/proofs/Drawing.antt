@@ -12,14 +12,14 @@ use lib.Seq.{take-all}
 use borrow.Author.Tests.{eq-eqb, ne-eqb, not-true, not-false}
 use Rattle.lists.specs.Tests.{_and_}
 use Rattle.lists.specs.Lists.{any, Ascending}
-use Rattle.lists.proofs.Cases.{on, on-same, or-false, and-false-right}
+use Rattle.lists.proofs.Cases.{on-same, or-false, and-false-right}
 use Rattle.lists.proofs.Tab.{length-tab, getD-tab}
 use Rattle.lists.proofs.Ascend.{ascending-apart}
 use Rattle.layout.specs.declared.Found.the-variants.{At}
 use Rattle.layout.specs.Content.{Table, liveVertices, position}
 use Rattle.layout.specs.Layout.{limit, vertexLimit, vertexCount, hyperedgeCount, hyperedgeAt, membersAt, readHyperedges, read}
 use Rattle.layout.specs.WellFormed.{Formed}
-use Rattle.layout.specs.Steps.{Step, stepsOf, isStep, makesStep, hasStep}
+use Rattle.layout.specs.Steps.{stepsOf, isStep, makesStep, hasStep}
 use Rattle.layout.proofs.Position.{position-found}
 use Rattle.layout.proofs.Read.{live-length, live-ascends}
 use Rattle.steps.specs.Matrices.{numberOf, between, linked, cell, Holds, stepsBetween, turnedBetween, linksBetween}
@@ -103,35 +103,35 @@ module _ (ws : List ℕ) (forth back : Bool) where
       → Holds (between (read limit ws) (along forth back R)) (vertexCount ws) m → Holds (between (read limit ws) (along forth back S)) (vertexCount ws) m
   holds-as R S h w = holds-ext (λ i j _ _. along-ext forth back R S h (numberOf (read limit ws) i) (numberOf (read limit ws) j)) w
 
-  module _ (j : ℕ) (ms : List ℕ) where
-    -- one member: no step of the list yet
-    soFar-first : 0 < length ms → (u v : ℕ) → firstSteps (read limit ws) j u v ≡ soFar (read limit ws) j (take 1 ms) u v
-    unfolding soFar any stepsOf
-    soFar-first h u v = sym (ap (λ (b : Bool). firstSteps (read limit ws) j u v || b) (none ms) ∙ or-false _)
-      where
-        none : (l : List ℕ) → any (isStep u v) (stepsOf (take 1 l)) ≡ false
-        none [] = refl
-        none (x ∷ l) = refl
+module _ (ws : List ℕ) (j : ℕ) (ms : List ℕ) where
+  -- one member: no step of the list yet
+  soFar-first : (u v : ℕ) → firstSteps (read limit ws) j u v ≡ soFar (read limit ws) j (take 1 ms) u v
+  unfolding soFar any stepsOf
+  soFar-first u v = sym (ap (λ (b : Bool). firstSteps (read limit ws) j u v || b) (none ms) ∙ or-false _)
+    where
+      none : (l : List ℕ) → any (isStep u v) (stepsOf (take 1 l)) ≡ false
+      none [] = refl
+      none (x ∷ l) = refl
 
-    soFar-more : (i : ℕ) → i + 1 < length ms → (u v : ℕ)
-        → soFar (read limit ws) j (take (suc (i + 1)) ms) u v ≡ (soFar (read limit ws) j (take (suc i) ms) u v || (eqb (getD ms i 0) u and eqb (getD ms (i + 1) 0) v))
-    unfolding soFar isStep
-    soFar-more i h u v =
-        rw (add-one i, steps-more ms i (rw (← add-one i) h), any-snoc (isStep u v) (stepsOf (take (suc i) ms)) (record { from = getD ms i 0; to = getD ms (suc i) 0 }))
-        (sym (or-assoc (firstSteps (read limit ws) j u v) (any (isStep u v) (stepsOf (take (suc i) ms))) (eqb (getD ms i 0) u and eqb (getD ms (suc i) 0) v)))
+  soFar-more : (i : ℕ) → i + 1 < length ms → (u v : ℕ)
+      → soFar (read limit ws) j (take (suc (i + 1)) ms) u v ≡ (soFar (read limit ws) j (take (suc i) ms) u v || (eqb (getD ms i 0) u and eqb (getD ms (i + 1) 0) v))
+  unfolding soFar isStep
+  soFar-more i h u v =
+      rw (add-one i, steps-more ms i (rw (← add-one i) h), any-snoc (isStep u v) (stepsOf (take (suc i) ms)) (record { from = getD ms i 0; to = getD ms (suc i) 0 }))
+      (sym (or-assoc (firstSteps (read limit ws) j u v) (any (isStep u v) (stepsOf (take (suc i) ms))) (eqb (getD ms i 0) u and eqb (getD ms (suc i) 0) v)))
 
-    soFar-end : j < hyperedgeCount ws → ms ≡ membersAt limit ws j → (i : ℕ) → length ms ≤ suc i → (u v : ℕ)
-        → soFar (read limit ws) j (take (suc i) ms) u v ≡ firstSteps (read limit ws) (j + 1) u v
-    unfolding soFar firstSteps makesStep
-    soFar-end h e i l u v =
-        ap (λ (k : List ℕ). firstSteps (read limit ws) j u v || any (isStep u v) (stepsOf k)) (take-all (suc i) ms l ∙ e)
-        ∙ sym (any-more (makesStep u v) (readHyperedges limit ws) j (hyperedgeAt limit ws j) (rw length-tab h)
-        ∙ ap (λ (z : Bool). any (makesStep u v) (take j (readHyperedges limit ws)) || z) (ap (makesStep u v) (getD-tab (hyperedgeAt limit ws) (hyperedgeCount ws) j (hyperedgeAt limit ws j) h)))
+  soFar-end : j < hyperedgeCount ws → ms ≡ membersAt limit ws j → (i : ℕ) → length ms ≤ suc i → (u v : ℕ)
+      → soFar (read limit ws) j (take (suc i) ms) u v ≡ firstSteps (read limit ws) (j + 1) u v
+  unfolding soFar firstSteps makesStep
+  soFar-end h e i l u v =
+      ap (λ (k : List ℕ). firstSteps (read limit ws) j u v || any (isStep u v) (stepsOf k)) (take-all (suc i) ms l ∙ e)
+      ∙ sym (any-more (makesStep u v) (readHyperedges limit ws) j (hyperedgeAt limit ws j) (rw length-tab h)
+      ∙ ap (λ (z : Bool). any (makesStep u v) (take j (readHyperedges limit ws)) || z) (ap (makesStep u v) (getD-tab (hyperedgeAt limit ws) (hyperedgeCount ws) j (hyperedgeAt limit ws j) h)))
 
 module _ {ws : List ℕ} {j : ℕ} {forth back : Bool} {ms : List ℕ} where
   pub drawing-first : {a : ℕ} {m : List ℕ} → 0 < length ms → position (getD ms 0 0) (liveVertices (read limit ws)) ≡ At a → Drawn forth back ws j m
       → Drawing ws j forth back ms 0 a m
-  drawing-first h e w = record { within = h; last = e; holds = holds-as ws forth back _ _ (soFar-first ws forth back j ms h) w }
+  drawing-first h e w = record { within = h; last = e; holds = holds-as ws forth back _ _ (soFar-first ws j ms) w }
 
   pub drawing-more : {i a b : ℕ} {m next : List ℕ} → Formed limit ws → Drawing ws j forth back ms i a m → i + 1 < length ms
       → position (getD ms (i + 1) 0) (liveVertices (read limit ws)) ≡ At b → next ≡ putting back (cell b a) (putting forth (cell a b) m)
@@ -139,12 +139,12 @@ module _ {ws : List ℕ} {j : ℕ} {forth back : Bool} {ms : List ℕ} where
   drawing-more {i} {a} {b} {m} f d h e q = record {
     within = h;
     last = e;
-    holds = rw q (holds-step ws f forth back (soFar (read limit ws) j (take (suc i) ms)) (soFar (read limit ws) j (take (suc (i + 1)) ms)) (getD ms i 0) (getD ms (i + 1) 0) a b (d .last) e (soFar-more ws forth back j ms i h) (d .holds));
+    holds = rw q (holds-step ws f forth back (soFar (read limit ws) j (take (suc i) ms)) (soFar (read limit ws) j (take (suc (i + 1)) ms)) (getD ms i 0) (getD ms (i + 1) 0) a b (d .last) e (soFar-more ws j ms i h) (d .holds));
   }
 
   pub drawing-end : {i a : ℕ} {m : List ℕ} → j < hyperedgeCount ws → ms ≡ membersAt limit ws j → Drawing ws j forth back ms i a m → length ms ≤ i + 1
       → Drawn forth back ws (j + 1) m
-  drawing-end {i} h e d l = holds-as ws forth back _ _ (soFar-end ws forth back j ms h e i (rw (← add-one i) l)) (d .holds)
+  drawing-end {i} h e d l = holds-as ws forth back _ _ (soFar-end ws j ms h e i (rw (← add-one i) l)) (d .holds)
 
 -- ---- one mark: due is what the code tested
 

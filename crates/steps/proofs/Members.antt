@@ -1,5 +1,5 @@
 -- The members of a well-formed table: each list has one, and each is live, so that a search finds its record. Assumes nothing.
-use mathlib.Core.Path.{_≡_, refl, sym, ap, _∙_}
+use mathlib.Core.Path.{_≡_, sym, ap, _∙_}
 use mathlib.Core.Bool.{true}
 use mathlib.Core.List.{List}
 use Prim.Native.Nat.{ℕ, _+_, _≤_, _<_}
@@ -12,8 +12,8 @@ use Rattle.lists.proofs.All.{all-at}
 use Rattle.lists.proofs.Stride.{stride}
 use Rattle.layout.specs.declared.Found.{Found}
 use Rattle.layout.specs.declared.Found.the-variants.{At, Nothing}
-use Rattle.layout.specs.Content.{Hyperedge, liveVertices, isLive, membersLive, valid, position}
-use Rattle.layout.specs.Layout.{vertexLimit, hyperedgeLimit, recordSize, hyperedgesAt, hyperedgeWord, vertexCount, hyperedgeCount, countAt, hyperedgeAt, membersAt, readHyperedges, read}
+use Rattle.layout.specs.Content.{liveVertices, isLive, membersLive, valid, position}
+use Rattle.layout.specs.Layout.{vertexLimit, hyperedgeLimit, recordSize, hyperedgesAt, hyperedgeWord, hyperedgeCount, countAt, hyperedgeAt, membersAt, readHyperedges, read}
 use Rattle.layout.specs.WellFormed.{Formed}
 use Rattle.layout.proofs.Position.{missing-dead}
 use Rattle.layout.proofs.Read.{vertex-found}

@@ -1,5 +1,5 @@
 -- The walks along steps without direction are the walks of co-membership; turned steps walk the other way. Assumes nothing.
-use mathlib.Core.Path.{_≡_, refl, sym, ap, _∙_, subst}
+use mathlib.Core.Path.{_≡_, refl, sym, ap, subst}
 use mathlib.Core.Bool.{Bool, true, _||_}
 use mathlib.Core.Logic.{⊎-elim}
 use mathlib.Core.List.{List, [], _∷_}
@@ -12,8 +12,8 @@ use Rattle.lists.specs.Lists.{any, memb}
 use Rattle.lists.proofs.Cases.{clash, or-true, or-right, and-left, and-right, and-both}
 use Rattle.walks.specs.Walks.{Reach, here, step}
 use Rattle.walks.proofs.Walks.{reach-trans, reach-through, reach-map}
-use Rattle.layout.specs.Content.{Hyperedge, Table}
-use Rattle.layout.specs.Steps.{stepsOf, isStep, makesStep, hasStep, StepIn}
+use Rattle.layout.specs.Content.{Table}
+use Rattle.layout.specs.Steps.{stepsOf, isStep, makesStep, hasStep}
 use Rattle.steps.specs.Matrices.{linked, listsBoth, together, turned, Related, LinkIn, TogetherIn}
 use Rattle.steps.proofs.Any.{any-at, any-of}
 use Rattle.steps.proofs.Among.{noHyperedge, step-together, together-swap}

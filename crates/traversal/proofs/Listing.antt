@@ -1,6 +1,6 @@
 -- The records of a listing, and their numbers as they are written. Assumes nothing.
 use mathlib.Core.Path.{_≡_, refl, sym, ap, _∙_, subst}
-use mathlib.Core.List.{List, [], _∷_, _++_, map}
+use mathlib.Core.List.{List, map}
 use Prim.Native.Nat.{ℕ, _+_, _≤_, _<_}
 use native.Mathlib.Nat.{le-antisymm}
 use native.Mathlib.Numerals.{add-one}
@@ -70,8 +70,14 @@ module _ {n c : ℕ} {order : List ℕ} (o : Ordered n c order (take c order)) w
       → Wrote f order out₀ (k + 1) next
   wrote-more {f} {out₀} {k} {x} {out} {next} w h l ex en = record {
     same = rw (en, length-set) (w .same);
-    wrote = en ∙ rw (ex, w .wrote, over-more (map f (take k order)) out₀ (f (getD order k 0)) k (map-length f (take k order) ∙ length-take-le k order (omega (arith, ordered-long))) (omega arith),
-        add-one k, take-suc order k 0 (omega (arith, ordered-long)), map-snoc);
+    wrote = en ∙ rw (
+      ex,
+      w .wrote,
+      over-more (map f (take k order)) out₀ (f (getD order k 0)) k (map-length f (take k order) ∙ length-take-le k order (omega (arith, ordered-long))) (omega arith),
+      add-one k,
+      take-suc order k 0 (omega (arith, ordered-long)),
+      map-snoc,
+    );
   }
 
 pub wrote-end : {f : ℕ → ℕ} {order out₀ : List ℕ} {k : ℕ} {out : List ℕ} (c : ℕ) → Wrote f order out₀ k out → k ≤ c → c ≤ k → out ≡ over (map f (take c order)) out₀

@@ -1,22 +1,17 @@
 -- What is reached is what a walk along steps leads to. Assumes nothing.
-use mathlib.Core.Path.{_≡_, refl, sym, ap, ap₂, _∙_, subst}
-use mathlib.Core.Bool.{Bool, true}
+use mathlib.Core.Path.{_≡_, refl, sym, subst}
+use mathlib.Core.Bool.{true}
 use mathlib.Core.List.{List}
 use Prim.Native.Nat.{ℕ, _<_}
-use lib.ListN.{length, getD}
-use Rattle.lists.specs.Lists.{memb}
-use Rattle.lists.proofs.Memb.{memb-at, below-memb}
 use Rattle.walks.specs.Walks.{Reach, here, step}
-use Rattle.layout.specs.declared.Found.the-variants.{At}
-use Rattle.layout.specs.Content.{liveVertices, isLive, position}
+use Rattle.layout.specs.Content.{liveVertices, isLive}
 use Rattle.layout.specs.Layout.{limit, vertexCount, read}
 use Rattle.layout.specs.WellFormed.{Formed}
 use Rattle.layout.specs.Steps.{hasStep, StepIn}
 use Rattle.layout.proofs.Position.{position-here}
 use Rattle.layout.proofs.Read.{live-length, live-ascends}
-use Rattle.graph.specs.Reach.{Edge}
 use Rattle.graph.specs.Bfs.{bfs}
-use Rattle.graph.proofs.Bfs.{bfs-below, bfs-sound, bfs-complete}
+use Rattle.graph.proofs.Bfs.{bfs-sound, bfs-complete}
 use Rattle.steps.specs.Matrices.{numberOf, stepsBetween}
 use Rattle.steps.proofs.Among.{steps-among}
 use Rattle.steps.proofs.Records.{record-of, reach-numbers, reach-records}
@@ -37,7 +32,7 @@ module _ {ws : List ℕ} (f : Formed limit ws) (x : ℕ) (l : isLive (liveVertic
       let r = map-memb (numberOf (read limit ws)) y (bfs (stepsBetween (read limit ws)) (vertexCount ws) (start .0)) (rw (listing, live-length limit ws) at e) in
       let w = bfs-sound (stepsBetween (read limit ws)) (vertexCount ws) (start .0) (start .1) (r .0) (r .1) in
       let a : Reach (StepIn (read limit ws)) (numberOf (read limit ws) (start .0)) (numberOf (read limit ws) (r .0)) =
-          reach-numbers f (hasStep (read limit ws)) (steps-among (read limit ws) (f .content)) (stepsBetween (read limit ws)) (λ i j _ _. refl) w in
+      reach-numbers f (hasStep (read limit ws)) (steps-among (read limit ws) (f .content)) (stepsBetween (read limit ws)) (λ i j _ _. refl) w in
       subst (λ (z : ℕ). Reach (StepIn (read limit ws)) x z) (r .2) (subst (λ (z : ℕ). Reach (StepIn (read limit ws)) z (numberOf (read limit ws) (r .0))) (start .2) a)
 
   end-live : {z : ℕ} → Reach (StepIn (read limit ws)) x z → isLive (liveVertices (read limit ws)) z ≡ true
@@ -49,6 +44,6 @@ module _ {ws : List ℕ} (f : Formed limit ws) (x : ℕ) (l : isLive (liveVertic
   walk-reachable y a =
       let e = record-of ws y (end-live a) in
       let b : Reach (StepIn (read limit ws)) (numberOf (read limit ws) (start .0)) (numberOf (read limit ws) (e .0)) =
-          subst (λ (z : ℕ). Reach (StepIn (read limit ws)) z (numberOf (read limit ws) (e .0))) (sym (start .2)) (subst (λ (z : ℕ). Reach (StepIn (read limit ws)) x z) (sym (e .2)) a) in
+      subst (λ (z : ℕ). Reach (StepIn (read limit ws)) z (numberOf (read limit ws) (e .0))) (sym (start .2)) (subst (λ (z : ℕ). Reach (StepIn (read limit ws)) x z) (sym (e .2)) a) in
       let w = reach-records f (hasStep (read limit ws)) (steps-among (read limit ws) (f .content)) (stepsBetween (read limit ws)) (λ i j _ _. refl) (start .0) (e .0) (start .1) (e .1) b in
       rw (listing, live-length limit ws, ← e .2) (memb-map (numberOf (read limit ws)) (e .0) (bfs (stepsBetween (read limit ws)) (vertexCount ws) (start .0)) (bfs-complete (stepsBetween (read limit ws)) (vertexCount ws) (start .0) (start .1) (e .0) w))
