@@ -6,7 +6,7 @@ use mathlib.Core.List.{List, [], _∷_, map}
 use Prim.Native.Nat.{ℕ}
 use lib.Dec.{eqb}
 use borrow.Author.Tests.{eq-eqb, eqb-true}
-use Rattle.lists.specs.Lists.{memb}
+use Rattle.lists.specs.Lists.{memb, Distinct}
 use Rattle.lists.proofs.Cases.{clash, or-true, or-right, test-ext}
 use Rattle.lists.proofs.Memb.{memb-self}
 
@@ -33,3 +33,11 @@ module _ (f : ℕ → ℕ) where
       test-ext _ _
       (λ e. let r = map-memb (f x) l e in ap (λ (y : ℕ). memb y l) (sym (one (r .0) (r .1) (r .2))) ∙ r .1)
       (λ e. memb-map x l e)
+
+  -- no repeat before, none after
+  pub distinct-map : (l : List ℕ) → ((x y : ℕ) → memb x l ≡ true → memb y l ≡ true → f x ≡ f y → x ≡ y) → Distinct l → Distinct (map f l)
+  distinct-map [] one d = tt
+  distinct-map (x ∷ l) one d = (
+    memb-image x l (λ y p e. one y x (or-right (eqb y x) (memb y l) p) (memb-self x l) e) ∙ d .0,
+    distinct-map l (λ y z p q. one y z (or-right (eqb y x) (memb y l) p) (or-right (eqb z x) (memb z l) q)) (d .1),
+  )
