@@ -8,13 +8,12 @@ use lib.Dec.{eqb}
 use lib.ListN.{length, getD}
 use borrow.Author.Tests.{eqb-true}
 use Rattle.lists.specs.Tests.{_and_}
-use Rattle.lists.specs.Lists.{any, memb, Ascending}
+use Rattle.lists.specs.Lists.{any, memb}
 use Rattle.lists.proofs.Cases.{clash, or-true, or-right, and-left, and-right, and-both}
 use Rattle.lists.proofs.All.{all-at}
 use Rattle.lists.proofs.Memb.{memb-self, memb-at}
 use Rattle.layout.specs.Content.{Hyperedge, Table, liveVertices, isLive, membersLive, valid}
 use Rattle.layout.specs.Steps.{stepsOf, isStep, makesStep, hasStep}
-use Rattle.layout.proofs.Read.{numbered-ascends}
 use Rattle.steps.specs.Matrices.{linked, listsBoth, together, turned}
 use Rattle.steps.proofs.Any.{any-at, any-of}
 
@@ -56,10 +55,6 @@ module _ (t : Table) where
       any-of (listsBoth y x) (t .hyperedges) noHyperedge (r .0) (r .1) (and-both _ _ (and-right _ _ (r .2)) (and-left _ _ (r .2)))
 
   module _ (v : valid t ≡ true) where
-    pub live-rises : Ascending (liveVertices t)
-    unfolding valid
-    live-rises = numbered-ascends (liveVertices t) (t .nextVertex) (and-left _ _ v)
-
     -- every member is live
     listed-live : (k : ℕ) → k < length (t .hyperedges) → (x : ℕ) → memb x (getD (t .hyperedges) k noHyperedge .members) ≡ true → isLive (liveVertices t) x ≡ true
     unfolding valid membersLive
