@@ -24,10 +24,10 @@ static void table_head(void) {
     printf("%-26s %-34s %9s %9s %9s  %s\n", "what", "table", "median", "least", "limit", "median/limit");
 }
 
-static void table_row(const char *what, const char *table, double less_ns, double limit_ns) {
+static void table_row(const char *what, const char *table, double limit_ns) {
     qsort(times, ROUNDS, sizeof *times, by_value);
-    double median = times[ROUNDS / 2] - less_ns, least = times[0] - less_ns;
-    printf("%-26s %-34s %9.0f %9.0f %9.0f  %4.2f\n", what, table, median, least, limit_ns, median / limit_ns);
+    double median = times[ROUNDS / 2];
+    printf("%-26s %-34s %9.0f %9.0f %9.0f  %4.2f\n", what, table, median, times[0], limit_ns, median / limit_ns);
 }
 
 /* Fills `times` with the time of a call, each round's mean. */
@@ -41,23 +41,10 @@ static void table_row(const char *what, const char *table, double less_ns, doubl
         times[round] = (now_ns() - began) / CALLS; \
     }
 
-/* A row for a call; for a call after a preparation, whose own median is taken off. */
-#define TIME(what, table, limit_ns, call)         \
-    do {                                          \
-        MEASURE(call)                             \
-        table_row(what, table, 0, limit_ns);      \
+/* A row for a call. */
+#define TIME(what, table, limit_ns, call)    \
+    do {                                     \
+        MEASURE(call)                        \
+        table_row(what, table, limit_ns);    \
     } while (0)
-
-#define TIME_NET(what, table, limit_ns, less_ns, before, call) \
-    do {                                                       \
-        MEASURE(before; call)                                  \
-        table_row(what, table, less_ns, limit_ns);             \
-    } while (0)
-
-#define median_ns(call)                                          \
-    ({                                                           \
-        MEASURE(call)                                            \
-        qsort(times, ROUNDS, sizeof *times, by_value);           \
-        times[ROUNDS / 2];                                       \
-    })
 #endif

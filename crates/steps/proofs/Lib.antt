@@ -1,0 +1,7 @@
+pub mod Any
+pub mod Holds
+pub mod Members
+pub mod Drawing
+pub mod Among
+pub mod Records
+pub mod Together

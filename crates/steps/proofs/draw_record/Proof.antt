@@ -1,0 +1,77 @@
+-- `steps::draw_record` meets its contract: `Drawing` at each place of the list. Assumes nothing.
+use Prim.Native.Nat.{_-_}
+use lib.ListN.{length}
+use borrow.Author.Needs.{needs}
+use Rattle.steps.proofs.Members.{members-some, members-live, place-below}
+use Rattle.steps.proofs.Drawing.{Drawing, drawing-first, drawing-more, drawing-end}
+use Rattle.steps.proofs.draw_record.Statement.{statement}
+use Rattle.steps.proofs.draw_record.Tie as tie
+
+abbrev Inv-loop : tie.InvT-loop
+Inv-loop t j forth back m₀ ms a₀ i₀ m a i = Drawing t j forth back ms i a m
+
+abbrev μ-loop : tie.MeasureT-loop
+μ-loop t j forth back m₀ ms a₀ i₀ m a i = length ms - i
+
+members-formed-requires : tie.Need-members-formed-requires Inv-loop μ-loop
+members-formed-requires c κs = search needs
+
+shared-slice-read-place : tie.Need-shared-slice-read-place Inv-loop μ-loop
+shared-slice-read-place c = search members-some
+
+place-requires : tie.Need-place-requires Inv-loop μ-loop
+place-requires c κs = (search needs, search (members-live, members-some))
+
+loop-holds : tie.Need-loop-holds Inv-loop μ-loop
+loop-holds c = search (drawing-first, members-some)
+
+add-loop : tie.Need-add-loop Inv-loop μ-loop
+add-loop c = search needs
+
+add-place : tie.Need-add-place Inv-loop μ-loop
+add-place c = search needs
+
+mul-place : tie.Need-mul-place Inv-loop μ-loop
+mul-place c = search needs
+
+shared-slice-read-place-2 : tie.Need-shared-slice-read-place-2 Inv-loop μ-loop
+shared-slice-read-place-2 c = search needs
+
+place-requires-2 : tie.Need-place-requires-2 Inv-loop μ-loop
+place-requires-2 c κs = (search needs, search members-live)
+
+put-step-requires : tie.Need-put-step-requires Inv-loop μ-loop
+put-step-requires c κs = (search place-below, search place-below)
+
+add-i : tie.Need-add-i Inv-loop μ-loop
+add-i c = search needs
+
+loop-less : tie.Need-loop-less Inv-loop μ-loop
+loop-less c = search needs
+
+loop-again : tie.Need-loop-again Inv-loop μ-loop
+loop-again c = search drawing-more
+
+returns : tie.Need-returns Inv-loop μ-loop
+returns c = search drawing-end
+
+pub draw-record-spec : {M : Type 1} → statement M
+draw-record-spec =
+    tie.close
+    (tie.spec
+    Inv-loop
+    μ-loop
+    members-formed-requires
+    shared-slice-read-place
+    place-requires
+    loop-holds
+    add-loop
+    add-place
+    mul-place
+    shared-slice-read-place-2
+    place-requires-2
+    put-step-requires
+    add-i
+    loop-less
+    loop-again
+    returns)

@@ -1,0 +1,37 @@
+-- Breadth first sees of a relation what it says of the numbers below n. Assumes nothing.
+use mathlib.Core.Path.{_≡_, refl, ap, _∙_}
+use mathlib.Core.Bool.{Bool, not, _&&_, cond}
+use mathlib.Core.List.{List, [], _∷_, _++_}
+use Prim.Native.Nat.{ℕ, zero, suc, _+_, _≤_, _<_}
+use native.Mathlib.Omega.{arith}
+use lib.Dec.{ltb}
+use lib.ListN.{length, getD}
+use borrow.Author.Tests.{ltb-true}
+use Rattle.lists.specs.Lists.{memb, Below}
+use Rattle.lists.proofs.Cases.{on}
+use Rattle.lists.proofs.Memb.{memb-getD, below-memb, below-snoc}
+use Rattle.graph.specs.Bfs.{push, spread, run, bfs}
+use Rattle.graph.proofs.Bfs.{spread-keeps}
+
+module _ (E F : ℕ → ℕ → Bool) (n : ℕ) (h : (i j : ℕ) → i < n → j < n → E i j ≡ F i j) where
+  spread-ext : (x : ℕ) → x < n → (m j : ℕ) (q : List ℕ) → j + m ≤ n → spread E x m j q ≡ spread F x m j q
+  unfolding spread push
+  spread-ext x hx zero j q b = refl
+  spread-ext x hx (suc m) j q b =
+      ap (λ (e : Bool). spread E x m (suc j) (cond (e && not (memb j q)) (q ++ (j ∷ [])) q)) (h x j hx (omega arith))
+      ∙ spread-ext x hx m (suc j) (push F x q j) (omega arith)
+
+  run-ext : (f k : ℕ) (q : List ℕ) → Below n q → run E n f k q ≡ run F n f k q
+  unfolding run
+  run-ext zero k q b = refl
+  run-ext (suc f) k q b =
+      on (ltb k (length q))
+      (λ e.
+      let hx : getD q k 0 < n = below-memb n q b (getD q k 0) (memb-getD q k (ltb-true k (length q) e)) in
+      rw e (ap (run E n f (suc k)) (spread-ext (getD q k 0) hx n 0 q (omega arith))
+      ∙ run-ext f (suc k) (spread F (getD q k 0) n 0 q) (spread-keeps F (Below n) n (getD q k 0) (λ l j p _ _ c. below-snoc n l j c p) n 0 q (omega arith) b)))
+      (λ e. rw e)
+
+  pub bfs-ext : (s : ℕ) → s < n → bfs E n s ≡ bfs F n s
+  unfolding bfs
+  bfs-ext s l = run-ext n 0 (s ∷ []) (l, tt)

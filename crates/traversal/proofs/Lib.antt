@@ -1,0 +1,5 @@
+pub mod Ext
+pub mod Mapped
+pub mod Reaching
+pub mod Walks
+pub mod Listing

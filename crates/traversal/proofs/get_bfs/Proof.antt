@@ -1,0 +1,24 @@
+-- `traversal::get_bfs` meets its contract. Assumes nothing.
+use Rattle.layout.proofs.Answers.{on-unformed, formed-by, on-formed}
+use borrow.Author.Needs.{needs}
+use Rattle.traversal.proofs.get_bfs.Statement.{statement}
+use Rattle.traversal.proofs.get_bfs.Tie as tie
+
+well-formed-requires : tie.Need-well-formed-requires
+well-formed-requires c κs = search needs
+
+returns : tie.Need-returns
+returns c = search on-unformed
+
+breadth-first-requires : tie.Need-breadth-first-requires
+breadth-first-requires c κs = search formed-by
+
+same-length : tie.Need-same-length
+same-length c = search needs
+
+returns-2 : tie.Need-returns-2
+returns-2 c = search on-formed
+
+pub get-bfs-spec : {M : Type 1} → statement M
+get-bfs-spec =
+    tie.close (tie.spec well-formed-requires returns breadth-first-requires same-length returns-2)

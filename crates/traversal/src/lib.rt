@@ -1,0 +1,125 @@
+// Traversal: breadth first from a vertex, and whether one vertex is reached from another.
+ghost use mathlib.Core.Path.{_≡_};
+ghost use mathlib.Core.List.{[], map};
+ghost use Prim.Native.Nat.{_<_, _≤_};
+ghost use lib.ListN.{length, take};
+ghost use Rattle.lists.specs.Tests.{bit};
+ghost use Rattle.lists.specs.Lists.{memb, over};
+ghost use Rattle.layout.specs.Content.{liveVertices, position};
+ghost use Rattle.layout.specs.Layout.{limit, vertexCount, read};
+ghost use Rattle.layout.specs.WellFormed.{Formed};
+ghost use Rattle.layout.specs.Answers.{result, onFormed, listed};
+ghost use Rattle.graph.specs.Bfs.{bfs};
+ghost use Rattle.steps.specs.Matrices.{numberOf, stepsBetween};
+ghost use Rattle.traversal.specs.Traversal.{breadthFrom, bfsResult, reachableResult};
+ghost use Rattle.traversal.specs.Ordered.{Ordered};
+use layout::Answer;
+use layout::Found;
+use layout::VertexIndex;
+
+// 1 where record j is reached from record i, else 0.
+fn reached(t: &[u32], i: usize, j: usize) -> usize
+    requires { ⌜ Formed limit (now t) ⌝ }
+    requires { ⌜ (i < vertexCount (now t)) × (j < vertexCount (now t)) ⌝ }
+    ensures { λ r. ⌜ r ≡ bit (memb j (bfs (stepsBetween (read limit (now (t .entry)))) (vertexCount (now (t .entry))) i)) ⌝ }
+{
+    let n = layout::vertex_count(t);
+    let mut m = [0u8; 65536];
+    steps::step_matrix(t, &mut m);
+    let mut marks = [0u8; 256];
+    graph::marks_from(&m, n, i, &mut marks);
+    marks[j] as usize
+}
+
+fn reached_from(t: &[u32], i: usize, from: VertexIndex, to: VertexIndex) -> Answer
+    requires { ⌜ Formed limit (now t) ⌝ }
+    requires { ⌜ position (from .0) (liveVertices (read limit (now t))) ≡ Found.At i ⌝ }
+    ensures { λ r. ⌜ result r [] ≡ reachableResult (from .0) (to .0) (read limit (now (t .entry))) ⌝ }
+{
+    let f = layout::find_vertex(t, to);
+    match f {
+        Found::Nothing => Answer::VertexNotLive(to),
+        Found::At(j) => Answer::Done(reached(t, i, j)),
+    }
+}
+
+fn reachable(t: &[u32], from: VertexIndex, to: VertexIndex) -> Answer
+    requires { ⌜ Formed limit (now t) ⌝ }
+    ensures { λ r. ⌜ result r [] ≡ reachableResult (from .0) (to .0) (read limit (now (t .entry))) ⌝ }
+{
+    let f = layout::find_vertex(t, from);
+    match f {
+        Found::Nothing => Answer::VertexNotLive(from),
+        Found::At(i) => reached_from(t, i, from, to),
+    }
+}
+
+// Whether `to` is reached from `from` by a walk along steps, of no step or more: 1 or 0.
+pub fn is_reachable(t: &[u32], from: VertexIndex, to: VertexIndex) -> Answer
+    ensures { λ r. ⌜ result r [] ≡ onFormed (now (t .entry)) [] (reachableResult (from .0) (to .0)) ⌝ }
+{
+    if !formed::well_formed(t) {
+        return Answer::NotWellFormed;
+    }
+    reachable(t, from, to)
+}
+
+// Breadth first from record i: the records reached, in the first places of `order`.
+fn order_from(t: &[u32], i: usize, order: &mut [u32; 256]) -> usize
+    requires { ⌜ Formed limit (now t) ⌝ }
+    requires { ⌜ i < vertexCount (now t) ⌝ }
+    ensures { λ r. ⌜ Ordered (vertexCount (now (t .entry))) r (now (order .exit)) (bfs (stepsBetween (read limit (now (t .entry)))) (vertexCount (now (t .entry))) i) ⌝ }
+{
+    let n = layout::vertex_count(t);
+    let mut m = [0u8; 65536];
+    steps::step_matrix(t, &mut m);
+    graph::get_bfs(&m, n, i, order)
+}
+
+// Writes the numbers of the first c records of `order` from the front of out.
+fn write_numbers(t: &[u32], order: &[u32; 256], c: usize, out: &mut [u32])
+    requires { ⌜ Formed limit (now t) ⌝ }
+    requires { ⌜ (c ≤ length (now out)) × Ordered (vertexCount (now t)) c (now order) (take c (now order)) ⌝ }
+    ensures { λ _. ⌜ now (out .exit) ≡ over (map (numberOf (read limit (now (t .entry)))) (take c (now (order .entry)))) (now (out .entry)) ⌝ }
+{
+    let mut k = 0;
+    while k < c {
+        out[k] = layout::vertex_number(t, order[k] as usize);
+        k += 1;
+    }
+}
+
+fn list_from(t: &[u32], i: usize, out: &mut [u32]) -> Answer
+    requires { ⌜ Formed limit (now t) ⌝ }
+    requires { ⌜ i < vertexCount (now t) ⌝ }
+    ensures { λ r. ⌜ result r (now (out .exit)) ≡ listed (breadthFrom (read limit (now (t .entry))) i) (now (out .entry)) ⌝ }
+{
+    let mut order = [0u32; 256];
+    let c = order_from(t, i, &mut order);
+    if out.len() < c {
+        return Answer::NoRoom(c);
+    }
+    write_numbers(t, &order, c, out);
+    Answer::Done(c)
+}
+
+fn breadth_first(t: &[u32], v: VertexIndex, out: &mut [u32]) -> Answer
+    requires { ⌜ Formed limit (now t) ⌝ }
+    ensures { λ r. ⌜ result r (now (out .exit)) ≡ bfsResult (v .0) (now (out .entry)) (read limit (now (t .entry))) ⌝ }
+{
+    let f = layout::find_vertex(t, v);
+    match f {
+        Found::Nothing => Answer::VertexNotLive(v),
+        Found::At(i) => list_from(t, i, out),
+    }
+}
+
+// Lists what is reached from v, breadth first, smallest neighbour first.
+pub fn get_bfs(t: &[u32], v: VertexIndex, out: &mut [u32]) -> Answer
+    ensures { λ r. ⌜ result r (now (out .exit)) ≡ onFormed (now (t .entry)) (now (out .entry)) (bfsResult (v .0) (now (out .entry))) ⌝ }
+{
+    if !formed::well_formed(t) {
+        return Answer::NotWellFormed;
+    }
+    breadth_first(t, v, out)
+}
