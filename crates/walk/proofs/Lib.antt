@@ -1,3 +1,4 @@
 pub mod Listing
 pub mod Others
 pub mod Walked
+pub mod Examples
