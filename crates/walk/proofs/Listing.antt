@@ -3,22 +3,24 @@ use mathlib.Core.Path.{_≡_, refl, sym, ap, _∙_}
 use mathlib.Core.Bool.{Bool, true, false, not, cond}
 use mathlib.Core.List.{List, [], _∷_, _++_}
 use Prim.Native.Nat.{ℕ, zero, suc, _+_, _-_, _*_, _^_, _≤_, _<_}
-use native.Mathlib.Nat.{add-zero, zero-add, add-assoc, add-comm, suc-ne-zero, le-antisymm}
+use native.Mathlib.Nat.{add-zero, zero-add, add-assoc, add-comm, suc-ne-zero, not-suc-le-zero, lt-irrefl}
 use native.Mathlib.Numerals.{add-one}
 use native.Mathlib.Omega.{arith}
 use lib.Ieee.{Float, lt}
-use lib.ListN.{length, getD, take, drop, drop-of-length-le}
-use lib.Seq.{take-suc, take-all}
+use lib.ListN.{length, getD, take, drop, set, length-set}
+use lib.Seq.{take-suc, take-all, getD-set-same, getD-set-other}
+use borrow.Author.Count.{below-more}
 use borrow.Author.Tests.{not-true, not-false}
 use Rattle.lists.specs.Lists.{memb, filter, tab}
 use Rattle.lists.proofs.Cases.{on}
 use Rattle.lists.proofs.Memb.{memb-snoc-self, memb-snoc-other}
-use Rattle.lists.proofs.Tab.{length-tab, tab-suc, drop-tab}
+use Rattle.lists.proofs.Tab.{tab-suc, tab-ext}
 use Rattle.lists.proofs.Filter.{filter-snoc}
 use Rattle.layout.specs.Content.{Hyperedge, lists, hyperedgesOf}
-use Rattle.layout.specs.Layout.{limit, hyperedgeCount, membersAt, hyperedgeAt, read}
+use Rattle.layout.specs.Layout.{limit, vertexLimit, hyperedgeCount, membersAt, hyperedgeAt, read}
+use Rattle.layout.specs.WellFormed.{Formed}
 use Rattle.walk.specs.Walk.{float, sample, totalWeight, firstGreater}
-use Rattle.walk.specs.Passes.{listsAt, weightFor, listing, Ends, Greater}
+use Rattle.walk.specs.Passes.{listsAt, listing, Ends, markedFrom, Greater}
 
 -- ---- a loop over a list that looks for v: found says whether v is among the first i
 
@@ -86,100 +88,120 @@ ends-with ws v (suc k) e h =
     let p : suc k - 1 ≡ k = omega arith in
     ap (listing ws v) s ∙ listing-in ws v k (e .lists-last k refl) ∙ ap (λ (i : ℕ). listing ws v i ++ (hyperedgeAt limit ws i ∷ [])) (sym p)
 
--- ---- the total weight
+-- ---- the marks: those of the first j records are set
 
-total-snoc : (es : List Hyperedge) (e : Hyperedge) → totalWeight (es ++ (e ∷ [])) ≡ totalWeight es + e .weight
-unfolding totalWeight
-total-snoc [] e = omega arith
-total-snoc (d ∷ es) e = ap (λ (k : ℕ). d .weight + k) (total-snoc es e) ∙ sym (add-assoc (d .weight) (totalWeight es) (e .weight))
+pub record Marked (ws : List ℕ) (v n : ℕ) (marks : List Bool) (j : ℕ) : Type 0 where
+  pub within : j ≤ n
+  pub sized : length marks ≡ vertexLimit
+  pub tests : (i : ℕ) → i < j → getD marks i false ≡ listsAt ws v i
 
-pub total-none : (ws : List ℕ) (v : ℕ) → 0 ≡ totalWeight (listing ws v 0)
-unfolding totalWeight
-total-none ws v = rw (listing-none ws v)
+pub marked-none : (ws : List ℕ) (v n : ℕ) (marks : List Bool) → length marks ≡ vertexLimit → Marked ws v n marks 0
+marked-none ws v n marks l = record { within = omega arith; sized = l; tests = λ i h. absurd (not-suc-le-zero h) }
 
--- total is the weight of the first j, x that of record j where it lists v
-pub total-on : (ws : List ℕ) (v j total x : ℕ) → total ≡ totalWeight (listing ws v j) → x ≡ weightFor ws v j → total + x ≡ totalWeight (listing ws v (j + 1))
-total-on ws v j total x inv e =
-    on (listsAt ws v j)
-    (λ q. let p : x ≡ hyperedgeAt limit ws j .weight = e ∙ ap (λ (b : Bool). cond b (hyperedgeAt limit ws j .weight) 0) q in
-    rw (listing-in ws v j q, inv, p) (sym (total-snoc (listing ws v j) (hyperedgeAt limit ws j))))
-    (λ q. let p : x ≡ 0 = e ∙ ap (λ (b : Bool). cond b (hyperedgeAt limit ws j .weight) 0) q in
-    rw (listing-out ws v j q, inv, p) (add-zero _))
+module _ (ws : List ℕ) (v n : ℕ) (marks : List Bool) (j : ℕ) (inv : Marked ws v n marks j) where
+  pub marked-more : (r : Bool) → Formed limit ws → n ≤ hyperedgeCount ws → j < n → r ≡ listsAt ws v j → Marked ws v n (set marks j r) (j + 1)
+  marked-more r f l h e = record {
+    within = omega arith;
+    sized = length-set marks j r ∙ inv .sized;
+    tests = below-more (λ (i : ℕ). getD (set marks j r) i false ≡ listsAt ws v i) j
+        (λ i b. getD-set-other marks j i r false (λ q. lt-irrefl j (rw q at b)) ∙ inv .tests i b) (getD-set-same marks j r false (omega (arith, inv .sized, f .shape .hyperedges-le)) ∙ e);
+  }
 
-pub total-end : (ws : List ℕ) (v n j total : ℕ) → total ≡ totalWeight (listing ws v j) → j ≤ n → n ≤ j → total ≡ totalWeight (listing ws v n)
-total-end ws v n j total inv a b = inv ∙ ap (λ (k : ℕ). totalWeight (listing ws v k)) (le-antisymm a b)
+  from-marks : (k i : ℕ) → i + k ≤ j → markedFrom ws marks i k ≡ filter (lists v) (tab (λ p. hyperedgeAt limit ws (i + p)) k)
+  unfolding markedFrom filter tab
+  from-marks zero i h = refl
+  from-marks (suc k) i h =
+      let fs : List Hyperedge = filter (lists v) (tab (λ p. hyperedgeAt limit ws (i + suc p)) k) in
+      let q : markedFrom ws marks (suc i) k ≡ fs = from-marks k (suc i) (omega arith) ∙ ap (filter (lists v)) (tab-ext _ _ k (λ p l. ap (hyperedgeAt limit ws) (omega arith))) in
+      rw (inv .tests i (omega arith), q) (ap (λ (m : ℕ). cond (lists v (hyperedgeAt limit ws m)) (hyperedgeAt limit ws m ∷ fs) fs) (sym (add-zero i)))
 
--- ---- the weight of one record: r is what was found of it
+  pub marked-end : n ≤ j → markedFrom ws marks 0 n ≡ listing ws v n
+  unfolding listing
+  marked-end h = from-marks n 0 (omega arith) ∙ ap (filter (lists v)) (tab-ext _ _ n (λ i l. ap (hyperedgeAt limit ws) (zero-add i)))
 
-module _ (ws : List ℕ) (v j : ℕ) (r : Bool) (e : r ≡ listsAt ws v j) where
-  pub weight-in : (x y : ℕ) → r ≡ true → y ≡ hyperedgeAt limit ws j .weight → x ≡ y → x ≡ weightFor ws v j
-  weight-in x y q a b = b ∙ a ∙ rw (← e, q)
+-- ---- what is left of the marked records from j on
 
-  pub weight-out : r ≡ false → 0 ≡ weightFor ws v j
-  weight-out q = rw (← e, q)
+module _ (ws : List ℕ) (marks : List Bool) (n j : ℕ) (h : j < n) where
+  rest : markedFrom ws marks j (n - j) ≡ cond (getD marks j false) (hyperedgeAt limit ws j ∷ markedFrom ws marks (j + 1) (n - (j + 1))) (markedFrom ws marks (j + 1) (n - (j + 1)))
+  unfolding markedFrom
+  rest = let s : n - j ≡ suc (n - (j + 1)) = omega arith in rw (s, add-one j)
+
+  rest-in : getD marks j false ≡ true → markedFrom ws marks j (n - j) ≡ hyperedgeAt limit ws j ∷ markedFrom ws marks (j + 1) (n - (j + 1))
+  rest-in e = rest ∙ rw e
+
+  rest-out : getD marks j false ≡ false → markedFrom ws marks j (n - j) ≡ markedFrom ws marks (j + 1) (n - (j + 1))
+  rest-out e = rest ∙ rw e
+
+rest-none : (ws : List ℕ) (marks : List Bool) (n j : ℕ) → n ≤ j → markedFrom ws marks j (n - j) ≡ []
+unfolding markedFrom
+rest-none ws marks n j h = let s : n - j ≡ 0 = omega arith in rw s
+
+-- ---- the loop that sums the weights: total is that of the first j
+
+pub record Summed (ws : List ℕ) (marks : List Bool) (n total j : ℕ) : Type 0 where
+  pub within : j ≤ n
+  pub small : total ≤ j * 4294967295
+  pub ahead : total + totalWeight (markedFrom ws marks j (n - j)) ≡ totalWeight (markedFrom ws marks 0 n)
+
+pub summed-none : (ws : List ℕ) (marks : List Bool) (n : ℕ) → Summed ws marks n 0 0
+summed-none ws marks n = record { within = omega arith; small = omega arith; ahead = let s : n - 0 ≡ n = omega arith in rw s (zero-add _) }
+
+module _ (ws : List ℕ) (marks : List Bool) (n total j : ℕ) (inv : Summed ws marks n total j) where
+  -- y is the weight of record j, and x counts it where it is marked
+  pub summed-more : (x y : ℕ) → j < n → y ≡ hyperedgeAt limit ws j .weight → x ≡ cond (getD marks j false) y 0 → x ≤ 4294967295 → Summed ws marks n (total + x) (j + 1)
+  unfolding totalWeight
+  summed-more x y h ey ex l = record {
+    within = omega arith;
+    small = omega (arith, inv .small);
+    ahead =
+        on (getD marks j false)
+        (λ q. let p : x ≡ y = ex ∙ ap (λ (b : Bool). cond b y 0) q in
+        rw (p, ey, add-assoc) (sym (ap (λ (es : List Hyperedge). total + totalWeight es) (rest-in ws marks n j h q)) ∙ inv .ahead))
+        (λ q. let p : x ≡ 0 = ex ∙ ap (λ (b : Bool). cond b y 0) q in
+        rw (p, add-zero) (sym (ap (λ (es : List Hyperedge). total + totalWeight es) (rest-out ws marks n j h q)) ∙ inv .ahead));
+  }
+
+  pub summed-end : n ≤ j → total ≡ totalWeight (markedFrom ws marks 0 n)
+  unfolding totalWeight
+  summed-end h = sym (add-zero total) ∙ (rw (rest-none ws marks n j h) at (inv .ahead))
 
 -- ---- the loop that looks for the first whose running sum is greater: sum is the running sum of the first j
 
--- those of the records from j on that list v
-unfoldable pub left : List ℕ → ℕ → ℕ → ℕ → List Hyperedge
-left ws v n j = filter (lists v) (drop j (tab (hyperedgeAt limit ws) n))
-
-module _ (ws : List ℕ) (v n j : ℕ) (h : j < n) where
-  left-in : listsAt ws v j ≡ true → left ws v n j ≡ hyperedgeAt limit ws j ∷ left ws v n (j + 1)
-  unfolding left filter
-  left-in e = rw (drop-tab (hyperedgeAt limit ws) n j h, e)
-
-  left-out : listsAt ws v j ≡ false → left ws v n j ≡ left ws v n (j + 1)
-  unfolding left filter
-  left-out e = rw (drop-tab (hyperedgeAt limit ws) n j h, e)
-
-left-none : (ws : List ℕ) (v n j : ℕ) → n ≤ j → left ws v n j ≡ []
-unfolding left filter
-left-none ws v n j h =
-    let l : length (tab (hyperedgeAt limit ws) n) ≤ j = rw length-tab h in
-    rw (drop-of-length-le (tab (hyperedgeAt limit ws) n) l)
-
-pub record Left (ws : List ℕ) (v n : ℕ) (x : Float) (sum j : ℕ) : Type 0 where
+pub record Left (ws : List ℕ) (marks : List Bool) (n : ℕ) (x : Float) (sum j : ℕ) : Type 0 where
   pub within : j ≤ n
   pub small : sum ≤ j * 4294967295
-  pub rest : firstGreater x (hyperedgeAt limit ws (n - 1)) sum (left ws v n j) ≡ firstGreater x (hyperedgeAt limit ws (n - 1)) 0 (listing ws v n)
+  pub ahead : firstGreater x (hyperedgeAt limit ws (n - 1)) sum (markedFrom ws marks j (n - j)) ≡ firstGreater x (hyperedgeAt limit ws (n - 1)) 0 (markedFrom ws marks 0 n)
 
-pub left-all : (ws : List ℕ) (v n : ℕ) (x : Float) → Left ws v n x 0 0
-unfolding left listing
-left-all ws v n x = record { within = omega arith; small = omega arith; rest = refl }
+pub left-all : (ws : List ℕ) (marks : List Bool) (n : ℕ) (x : Float) → Left ws marks n x 0 0
+left-all ws marks n x = record { within = omega arith; small = omega arith; ahead = let s : n - 0 ≡ n = omega arith in rw s }
 
-module _ (ws : List ℕ) (v n : ℕ) (x : Float) (sum j : ℕ) (inv : Left ws v n x sum j) where
-  pub left-end : 0 < n → n ≤ j → Greater ws v n x (n - 1)
+module _ (ws : List ℕ) (marks : List Bool) (n : ℕ) (x : Float) (sum j : ℕ) (inv : Left ws marks n x sum j) where
+  pub left-end : 0 < n → n ≤ j → Greater ws (markedFrom ws marks 0 n) n x (n - 1)
   unfolding firstGreater
-  left-end l h = record { within = omega arith; taken = rw (left-none ws v n j h) at (inv .rest) }
+  left-end l h = record { within = omega arith; taken = rw (rest-none ws marks n j h) at (inv .ahead) }
 
-  -- r is what was found of record j
-  module _ (h : j < n) (r : Bool) (e : r ≡ listsAt ws v j) where
-    pub left-skip : not r ≡ true → Left ws v n x sum (j + 1)
+  module _ (h : j < n) where
+    pub left-skip : not (getD marks j false) ≡ true → Left ws marks n x sum (j + 1)
     left-skip q = record {
       within = omega arith;
       small = omega (arith, inv .small);
-      rest = rw (← left-out ws v n j h (sym e ∙ not-true r q)) (inv .rest);
+      ahead = rw (← rest-out ws marks n j h (not-true _ q)) (inv .ahead);
     }
 
-    -- y is its weight, and z the running sum with it
-    module _ (y z : ℕ) (ey : y ≡ hyperedgeAt limit ws j .weight) (ez : z ≡ sum + y) (f : Float) (ef : f ≡ float z) where
-      turn : not r ≡ false → cond (lt x f) (hyperedgeAt limit ws j) (firstGreater x (hyperedgeAt limit ws (n - 1)) z (left ws v n (j + 1)))
-          ≡ firstGreater x (hyperedgeAt limit ws (n - 1)) 0 (listing ws v n)
+    -- y is the weight of record j, and f the running sum with it
+    module _ (y : ℕ) (ey : y ≡ hyperedgeAt limit ws j .weight) (f : Float) (ef : f ≡ float (sum + y)) where
+      turn : not (getD marks j false) ≡ false → cond (lt x f) (hyperedgeAt limit ws j) (firstGreater x (hyperedgeAt limit ws (n - 1)) (sum + y) (markedFrom ws marks (j + 1) (n - (j + 1))))
+          ≡ firstGreater x (hyperedgeAt limit ws (n - 1)) 0 (markedFrom ws marks 0 n)
       unfolding firstGreater
-      turn q = rw (ef, ez, ey) (rw (left-in ws v n j h (sym e ∙ not-false r q)) at (inv .rest))
+      turn q = rw (ef, ey) (rw (rest-in ws marks n j h (not-false _ q)) at (inv .ahead))
 
-      pub left-take : not r ≡ false → lt x f ≡ true → Greater ws v n x j
-      left-take q g = record { within = h; taken = ap (λ (b : Bool). cond b (hyperedgeAt limit ws j) (firstGreater x (hyperedgeAt limit ws (n - 1)) z (left ws v n (j + 1)))) (sym g) ∙ turn q }
+      pub left-take : not (getD marks j false) ≡ false → lt x f ≡ true → Greater ws (markedFrom ws marks 0 n) n x j
+      left-take q g = record { within = h; taken = rw g at (turn q) }
 
-      pub left-on : not r ≡ false → y ≤ 4294967295 → lt x f ≡ false → Left ws v n x z (j + 1)
-      left-on q s g = record {
-        within = omega arith;
-        small = omega (arith, inv .small);
-        rest = ap (λ (b : Bool). cond b (hyperedgeAt limit ws j) (firstGreater x (hyperedgeAt limit ws (n - 1)) z (left ws v n (j + 1)))) (sym g) ∙ turn q;
-      }
+      pub left-on : not (getD marks j false) ≡ false → y ≤ 4294967295 → lt x f ≡ false → Left ws marks n x (sum + y) (j + 1)
+      left-on q s g = record { within = omega arith; small = omega (arith, inv .small); ahead = rw g at (turn q) }
 
--- x is the draw's sample, made with the total that was found
-pub greater-drawn : (ws : List ℕ) (v n draw total : ℕ) (x : Float) (j : ℕ) → total ≡ totalWeight (listing ws v n) → x ≡ sample draw total
-    → Greater ws v n x j → Greater ws v n (sample draw (totalWeight (listing ws v n))) j
-greater-drawn ws v n draw total x j e q g = rw (← e, ← q) g
+-- es are the marked ones, and x is the draw's sample, made with the total that was found
+pub greater-drawn : (ws : List ℕ) (es fs : List Hyperedge) (n draw total : ℕ) (x : Float) (j : ℕ) → es ≡ fs → total ≡ totalWeight es → x ≡ sample draw total
+    → Greater ws es n x j → Greater ws fs n (sample draw (totalWeight fs)) j
+greater-drawn ws es fs n draw total x j m e q g = rw (← m, ← e, ← q) g

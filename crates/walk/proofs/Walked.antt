@@ -41,7 +41,7 @@ module _ (ws : List ℕ) (w : Walker) (n : ℕ) (e : Ends ws (w .at) n) where
   unfolding move moveAlong
   move-none q = rw (← e .among, q, listing-none ws (w .at))
 
-  pub move-one : (n ≡ 0 → ⊥) → (draw j : ℕ) → draw ≡ xorshift (w .state) → Greater ws (w .at) n (sample draw (totalWeight (listing ws (w .at) n))) j
+  pub move-one : (n ≡ 0 → ⊥) → (draw j : ℕ) → draw ≡ xorshift (w .state) → Greater ws (listing ws (w .at) n) n (sample draw (totalWeight (listing ws (w .at) n))) j
       → (ms : List ℕ) → ms ≡ membersAt limit ws j → (r : Walker) → r ≡ toOneOf (w .at) draw (others (w .at) ms) → r ≡ move (read limit ws) w
   unfolding move
   move-one h draw j d g ms m r q =

@@ -1,6 +1,6 @@
 // The random walk.
 ghost use mathlib.Core.Path.{_≡_};
-ghost use mathlib.Core.Bool.{true};
+ghost use mathlib.Core.Bool.{cond};
 ghost use Prim.Native.Nat.{ℕ, zero, suc, _+_, _*_, _<_, _≤_, _^_};
 ghost use lib.Ieee.{lt};
 ghost use lib.ListN.{length, getD};
@@ -11,7 +11,7 @@ ghost use Rattle.layout.specs.Layout.{limit, hyperedgeCount, hyperedgeAt, read}
 ghost use Rattle.layout.specs.WellFormed.{Formed};
 ghost use Rattle.layout.specs.Answers.{result, listed, onFormed};
 ghost use Rattle.walk.specs.Walk.{leftThirteen, xorshift, float, sample, totalWeight, firstGreater, isFirstOther, others, toOneOf, walker, move, walkFrom, cut, firstState, walk, walkResult};
-ghost use Rattle.walk.specs.Passes.{listsAt, weightFor, listing, Ends, Greater};
+ghost use Rattle.walk.specs.Passes.{listsAt, markedFrom, listing, Ends, Greater};
 use layout::Answer;
 use layout::Found;
 use layout::VertexIndex;
@@ -90,49 +90,62 @@ fn listing_end(t: &[u32], v: u32) -> usize
     0
 }
 
+// Marks those of the first n records that list v.
+fn mark_listing(t: &[u32], v: u32, n: usize) -> [bool; 256]
+    requires { ⌜ Formed limit (now t) ⌝ }
+    requires { ⌜ n ≤ hyperedgeCount (now t) ⌝ }
+    ensures { λ r. ⌜ markedFrom (now (t .entry)) r 0 n ≡ listing (now (t .entry)) v n ⌝ }
+{
+    let mut marks = [false; 256];
+    let mut j = 0;
+    while j < n {
+        marks[j] = record_lists(t, v, j);
+        j += 1;
+    }
+    marks
+}
+
 fn wide(x: u32) -> u64
     ensures { λ r. ⌜ (r ≡ x) × (r ≤ 4294967295) ⌝ }
 {
     x as u64
 }
 
-// The weight of record j where it lists v, else 0.
-fn weight_for(t: &[u32], v: u32, j: usize) -> u64
-    requires { ⌜ Formed limit (now t) ⌝ }
-    requires { ⌜ j < hyperedgeCount (now t) ⌝ }
-    ensures { λ r. ⌜ (r ≡ weightFor (now (t .entry)) v j) × (r ≤ 4294967295) ⌝ }
+// The weight of a record that is marked, else 0.
+fn counting(marked: bool, weight: u32) -> u64
+    ensures { λ r. ⌜ (r ≡ cond marked weight 0) × (r ≤ 4294967295) ⌝ }
 {
-    if record_lists(t, v, j) {
-        return wide(layout::hyperedge_weight(t, j));
+    if marked {
+        return wide(weight);
     }
     0
 }
 
-// The total weight of those of the first n records that list v.
-fn total_weight(t: &[u32], v: u32, n: usize) -> u64
+// The total weight of the marked ones of the first n records.
+fn total_weight(t: &[u32], marks: &[bool; 256], n: usize) -> u64
     requires { ⌜ Formed limit (now t) ⌝ }
     requires { ⌜ n ≤ hyperedgeCount (now t) ⌝ }
-    ensures { λ r. ⌜ (r ≡ totalWeight (listing (now (t .entry)) v n)) × (r ≤ 2 ^ 53) ⌝ }
+    ensures { λ r. ⌜ (r ≡ totalWeight (markedFrom (now (t .entry)) (now (marks .entry)) 0 n)) × (r ≤ 2 ^ 53) ⌝ }
 {
     let mut total = 0;
     let mut j = 0;
     while j < n {
-        total += weight_for(t, v, j);
+        total += counting(marks[j], layout::hyperedge_weight(t, j));
         j += 1;
     }
     total
 }
 
-// The first of the first n records that lists v and whose running sum is greater than x, else record n - 1.
-fn first_greater(t: &[u32], v: u32, n: usize, x: f64) -> usize
+// The first marked one of the first n records whose running sum is greater than x, else record n - 1.
+fn first_greater(t: &[u32], marks: &[bool; 256], n: usize, x: f64) -> usize
     requires { ⌜ Formed limit (now t) ⌝ }
     requires { ⌜ (0 < n) × (n ≤ hyperedgeCount (now t)) ⌝ }
-    ensures { λ r. ⌜ Greater (now (t .entry)) v n x r ⌝ }
+    ensures { λ r. ⌜ Greater (now (t .entry)) (markedFrom (now (t .entry)) (now (marks .entry)) 0 n) n x r ⌝ }
 {
     let mut sum = 0;
     let mut j = 0;
     while j < n {
-        if !record_lists(t, v, j) {
+        if !marks[j] {
             j += 1;
             continue;
         }
@@ -216,10 +229,11 @@ fn to_one_of(ms: &[u32], v: u32, state: u64) -> Walker
 fn drawn_hyperedge(t: &[u32], v: u32, n: usize, draw: u64) -> usize
     requires { ⌜ Formed limit (now t) ⌝ }
     requires { ⌜ (0 < n) × (n ≤ hyperedgeCount (now t)) ⌝ }
-    ensures { λ r. ⌜ Greater (now (t .entry)) v n (sample draw (totalWeight (listing (now (t .entry)) v n))) r ⌝ }
+    ensures { λ r. ⌜ Greater (now (t .entry)) (listing (now (t .entry)) v n) n (sample draw (totalWeight (listing (now (t .entry)) v n))) r ⌝ }
 {
-    let total = total_weight(t, v, n);
-    first_greater(t, v, n, sample(draw, total))
+    let marks = mark_listing(t, v, n);
+    let total = total_weight(t, &marks, n);
+    first_greater(t, &marks, n, sample(draw, total))
 }
 
 fn step(t: &[u32], w: Walker) -> Walker

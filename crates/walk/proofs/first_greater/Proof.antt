@@ -1,5 +1,5 @@
 -- `walk::first_greater` meets its contract. Assumes nothing.
-use mathlib.Core.Path.{refl, _∙_}
+use mathlib.Core.Path.{_∙_}
 use Prim.Native.Nat.{_-_}
 use Rattle.walk.proofs.Listing.{Left, left-all, left-skip, left-take, left-on, left-end}
 use borrow.Author.Needs.{needs}
@@ -7,16 +7,16 @@ use Rattle.walk.proofs.first_greater.Statement.{statement}
 use Rattle.walk.proofs.first_greater.Tie as tie
 
 abbrev Inv-loop : tie.InvT-loop
-Inv-loop t v n x sum₀ j₀ sum j = Left t v n x sum j
+Inv-loop t marks n x sum₀ j₀ sum j = Left t marks n x sum j
 
 abbrev μ-loop : tie.MeasureT-loop
-μ-loop t v n x sum₀ j₀ sum j = n - j
+μ-loop t marks n x sum₀ j₀ sum j = n - j
 
 loop-holds : tie.Need-loop-holds Inv-loop μ-loop
 loop-holds c = left-all _ _ _ _
 
-record-lists-requires : tie.Need-record-lists-requires Inv-loop μ-loop
-record-lists-requires c κs = search needs
+element-copy-out-if1 : tie.Need-element-copy-out-if1 Inv-loop μ-loop
+element-copy-out-if1 c = search needs
 
 add-j : tie.Need-add-j Inv-loop μ-loop
 add-j c = search needs
@@ -42,8 +42,8 @@ exact-requires c κs = search needs
 returns : tie.Need-returns Inv-loop μ-loop
 returns c =
     let b = c .before .before .before .before in
-    left-take _ _ _ _ _ _ (b .before .before .before .loop .inv) (b .before .before .loop-test .taken) _ (b .before .record-lists .ensures)
-    _ _ (c .before .before .wide .ensures .0 ∙ c .before .before .before .hyperedge-weight .ensures) refl _ (c .before .exact .ensures) (b .if1 .left) (c .if2 .taken)
+    left-take _ _ _ _ _ _ (b .before .before .before .loop .inv) (b .before .before .loop-test .taken)
+    _ (c .before .before .wide .ensures .0 ∙ c .before .before .before .hyperedge-weight .ensures) _ (c .before .exact .ensures) (b .if1 .left) (c .if2 .taken)
 
 add-j-2 : tie.Need-add-j-2 Inv-loop μ-loop
 add-j-2 c = search needs
@@ -54,8 +54,8 @@ loop-less-2 c = search needs
 loop-again-2 : tie.Need-loop-again-2 Inv-loop μ-loop
 loop-again-2 c =
     let b = c .before .before .before .before in
-    left-on _ _ _ _ _ _ (b .before .before .before .loop .inv) (b .before .before .loop-test .taken) _ (b .before .record-lists .ensures)
-    _ _ (c .before .before .wide .ensures .0 ∙ c .before .before .before .hyperedge-weight .ensures) refl _ (c .before .exact .ensures) (b .if1 .left) (c .before .before .wide .ensures .1) (c .if2 .left)
+    left-on _ _ _ _ _ _ (b .before .before .before .loop .inv) (b .before .before .loop-test .taken)
+    _ (c .before .before .wide .ensures .0 ∙ c .before .before .before .hyperedge-weight .ensures) _ (c .before .exact .ensures) (b .if1 .left) (c .before .before .wide .ensures .1) (c .if2 .left)
 
 sub-result : tie.Need-sub-result Inv-loop μ-loop
 sub-result c = search needs
@@ -70,7 +70,7 @@ first-greater-spec =
     Inv-loop
     μ-loop
     loop-holds
-    record-lists-requires
+    element-copy-out-if1
     add-j
     loop-less
     loop-again

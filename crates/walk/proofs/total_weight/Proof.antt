@@ -1,24 +1,27 @@
 -- `walk::total_weight` meets its contract. Assumes nothing.
-use mathlib.Core.Path.{_≡_}
-use Prim.Native.Nat.{_≤_, _-_, _*_}
-use Rattle.walk.specs.Walk.{totalWeight}
-use Rattle.walk.specs.Passes.{listing}
-use Rattle.walk.proofs.Listing.{total-none, total-on, total-end}
+use Prim.Native.Nat.{_-_}
+use Rattle.walk.proofs.Listing.{Summed, summed-none, summed-more, summed-end}
 use borrow.Author.Needs.{needs}
 use Rattle.walk.proofs.total_weight.Statement.{statement}
 use Rattle.walk.proofs.total_weight.Tie as tie
 
 abbrev Inv-loop : tie.InvT-loop
-Inv-loop t v n total₀ j₀ total j = (j ≤ n) × (total ≤ j * 4294967295) × (total ≡ totalWeight (listing t v j))
+Inv-loop t marks n total₀ j₀ total j = Summed t marks n total j
 
 abbrev μ-loop : tie.MeasureT-loop
-μ-loop t v n total₀ j₀ total j = n - j
+μ-loop t marks n total₀ j₀ total j = n - j
 
 loop-holds : tie.Need-loop-holds Inv-loop μ-loop
-loop-holds c = (search needs, search needs, search total-none)
+loop-holds c = summed-none _ _ _
 
-weight-for-requires : tie.Need-weight-for-requires Inv-loop μ-loop
-weight-for-requires c κs = search needs
+element-copy-out-counting : tie.Need-element-copy-out-counting Inv-loop μ-loop
+element-copy-out-counting c = search needs
+
+hyperedge-weight-requires : tie.Need-hyperedge-weight-requires Inv-loop μ-loop
+hyperedge-weight-requires c κs = search needs
+
+counting-requires : tie.Need-counting-requires Inv-loop μ-loop
+counting-requires c κs = search needs
 
 add-total : tie.Need-add-total Inv-loop μ-loop
 add-total c = search needs
@@ -30,10 +33,10 @@ loop-less : tie.Need-loop-less Inv-loop μ-loop
 loop-less c = search needs
 
 loop-again : tie.Need-loop-again Inv-loop μ-loop
-loop-again c = (search needs, search needs, search total-on)
+loop-again c = search summed-more
 
 returns : tie.Need-returns Inv-loop μ-loop
-returns c = (search total-end, search needs)
+returns c = (search summed-end, search needs)
 
 pub total-weight-spec : {M : Type 1} → statement M
 total-weight-spec =
@@ -42,7 +45,9 @@ total-weight-spec =
     Inv-loop
     μ-loop
     loop-holds
-    weight-for-requires
+    element-copy-out-counting
+    hyperedge-weight-requires
+    counting-requires
     add-total
     add-j
     loop-less
