@@ -1,7 +1,6 @@
 -- Two walks of one step, computed: a draw of 2 to the 64th less 1, and one of 2 to the 64th less 1,025. Assumes nothing.
 use mathlib.Core.Path.{_≡_, refl}
-use mathlib.Core.List.{List, [], _∷_}
-use Prim.Native.Nat.{ℕ}
+use mathlib.Core.List.{[], _∷_}
 use lib.Ieee.{span, climb, size, odd, units, round, mul, div, lt, ofInt}
 use Rattle.layout.specs.Content.{Table, hyperedgesOf}
 use Rattle.lists.specs.Lists.{filter}

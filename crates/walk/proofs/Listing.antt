@@ -2,12 +2,12 @@
 use mathlib.Core.Path.{_≡_, refl, sym, ap, _∙_}
 use mathlib.Core.Bool.{Bool, true, false, not, cond}
 use mathlib.Core.List.{List, [], _∷_, _++_}
-use Prim.Native.Nat.{ℕ, zero, suc, _+_, _-_, _*_, _^_, _≤_, _<_}
-use native.Mathlib.Nat.{add-zero, zero-add, add-assoc, add-comm, suc-ne-zero, not-suc-le-zero, lt-irrefl}
+use Prim.Native.Nat.{ℕ, zero, suc, _+_, _-_, _*_, _≤_, _<_}
+use native.Mathlib.Nat.{add-zero, zero-add, add-assoc, suc-ne-zero, not-suc-le-zero, lt-irrefl}
 use native.Mathlib.Numerals.{add-one}
 use native.Mathlib.Omega.{arith}
 use lib.Ieee.{Float, lt}
-use lib.ListN.{length, getD, take, drop, set, length-set}
+use lib.ListN.{length, getD, take, set, length-set}
 use lib.Seq.{take-suc, take-all, getD-set-same, getD-set-other}
 use borrow.Author.Count.{below-more}
 use borrow.Author.Tests.{not-true, not-false}
@@ -17,7 +17,7 @@ use Rattle.lists.proofs.Memb.{memb-snoc-self, memb-snoc-other}
 use Rattle.lists.proofs.Tab.{tab-suc, tab-ext}
 use Rattle.lists.proofs.Filter.{filter-snoc}
 use Rattle.layout.specs.Content.{Hyperedge, lists, hyperedgesOf}
-use Rattle.layout.specs.Layout.{limit, vertexLimit, hyperedgeCount, membersAt, hyperedgeAt, read}
+use Rattle.layout.specs.Layout.{limit, vertexLimit, hyperedgeCount, hyperedgeAt, read}
 use Rattle.layout.specs.WellFormed.{Formed}
 use Rattle.walk.specs.Walk.{float, sample, totalWeight, firstGreater}
 use Rattle.walk.specs.Passes.{listsAt, listing, Ends, markedFrom, Greater}

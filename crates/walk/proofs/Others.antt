@@ -1,14 +1,13 @@
 -- Laws of the distinct other members. Assumes nothing.
 use mathlib.Core.Path.{_≡_, refl, sym, ap, _∙_}
-use mathlib.Core.Bool.{Bool, true, false, not, _||_}
-use mathlib.Core.List.{List, [], _∷_, _++_, map}
-use Prim.Native.Nat.{ℕ, zero, suc, _+_, _-_, _≤_, _<_, _%_}
+use mathlib.Core.Bool.{Bool, true, false, not}
+use mathlib.Core.List.{List, [], _∷_, map}
+use Prim.Native.Nat.{ℕ, zero, suc, _+_, _≤_, _<_, _%_}
 use native.Mathlib.Nat.{suc-ne-zero, zero-lt-suc, mod-lt, le-antisymm, not-suc-le-zero, le-of-suc-le-suc, eq-or-lt-of-le}
 use native.Mathlib.Numerals.{add-one}
 use native.Mathlib.Omega.{arith}
 use mathlib.Core.Logic.{⊎-elim}
-use lib.Dec.{eqb}
-use lib.ListN.{length, getD, take, drop, List·getD-append}
+use lib.ListN.{length, getD, take, List·getD-append}
 use lib.Seq.{getD-at}
 use borrow.Author.Tests.{eq-eqb, ne-eqb, not-true, not-false}
 use Rattle.lists.specs.Tests.{count, chosen}
@@ -18,7 +17,6 @@ use Rattle.lists.proofs.Maps.{map-length}
 use Rattle.lists.proofs.Count.{count-below, count-in, count-out}
 use Rattle.lists.proofs.Chosen.{chosen-count, chosen-in, chosen-out}
 use Rattle.walk.specs.Walk.{isFirstOther, memberAt, others, walker, xorshift, toOneOf}
-use Rattle.walk.specs.declared.Walker.{Walker}
 
 -- ---- one place: x stands there
 

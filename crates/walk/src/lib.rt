@@ -1,16 +1,13 @@
 // The random walk.
 ghost use mathlib.Core.Path.{_≡_};
 ghost use mathlib.Core.Bool.{cond};
-ghost use Prim.Native.Nat.{ℕ, zero, suc, _+_, _*_, _<_, _≤_, _^_};
-ghost use lib.Ieee.{lt};
+ghost use Prim.Native.Nat.{_<_, _≤_, _^_};
 ghost use lib.ListN.{length, getD};
-ghost use Rattle.lists.specs.Tests.{count};
 ghost use Rattle.lists.specs.Lists.{memb, over};
-ghost use Rattle.layout.specs.Content.{hyperedgesOf};
-ghost use Rattle.layout.specs.Layout.{limit, hyperedgeCount, hyperedgeAt, read};
+ghost use Rattle.layout.specs.Layout.{limit, hyperedgeCount, read};
 ghost use Rattle.layout.specs.WellFormed.{Formed};
 ghost use Rattle.layout.specs.Answers.{result, listed, onFormed};
-ghost use Rattle.walk.specs.Walk.{leftThirteen, xorshift, float, sample, totalWeight, firstGreater, isFirstOther, others, toOneOf, walker, move, walkFrom, cut, firstState, walk, walkResult};
+ghost use Rattle.walk.specs.Walk.{xorshift, float, sample, totalWeight, isFirstOther, others, toOneOf, move, walkFrom, cut, firstState, walk, walkResult};
 ghost use Rattle.walk.specs.Passes.{listsAt, markedFrom, listing, Ends, Greater};
 use layout::Answer;
 use layout::Found;
