@@ -1,0 +1,5 @@
+pub mod Listing
+pub mod Others
+pub mod Walked
+pub mod Sums
+pub mod Examples

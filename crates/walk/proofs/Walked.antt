@@ -1,0 +1,127 @@
+-- Laws of a move and of the walk. Assumes nothing.
+use mathlib.Core.Path.{_≡_, refl, sym, ap, _∙_}
+use mathlib.Core.List.{List, [], _∷_, _++_, append-assoc, append-nil}
+use Prim.Native.Nat.{ℕ, zero, suc, _+_, _-_, _≤_, _<_}
+use native.Mathlib.Omega.{arith}
+use lib.ListN.{length, set, length-append, length-set}
+use borrow.Author.Tests.{le-leb, lt-leb, eq-eqb, ne-eqb}
+use Rattle.lists.specs.Lists.{over}
+use Rattle.lists.proofs.Chosen.{over-none, over-more}
+use Rattle.layout.specs.declared.Found.{Found}
+use Rattle.layout.specs.declared.Found.the-variants.{At, Nothing}
+use Rattle.layout.specs.declared.Answer.the-variants.{Done, NoRoom}
+use Rattle.layout.specs.Content.{Hyperedge, Table, liveVertices, position}
+use Rattle.layout.specs.Layout.{limit, membersAt, hyperedgeAt, read}
+use Rattle.layout.specs.Answers.{Result, result, vertexMissing, listed}
+use Rattle.layout.proofs.Answers.{on-missing, on-found, listed-over, listed-fits}
+use Rattle.walk.specs.declared.Walker.{Walker}
+use Rattle.walk.specs.Walk.{xorshift, sample, totalWeight, lastOf, firstGreater, others, toOneOf, walker, moveAlong, move, walkFrom, stepLimit, cut, firstState, walk, walkResult}
+use Rattle.walk.specs.Passes.{listing, Ends, Greater}
+use Rattle.walk.proofs.Listing.{listing-none, ends-with}
+
+-- ---- a move
+
+last-snoc : (e : Hyperedge) (es : List Hyperedge) (z : Hyperedge) → lastOf e (es ++ (z ∷ [])) ≡ z
+unfolding lastOf
+last-snoc e [] z = refl
+last-snoc e (d ∷ es) z = last-snoc d es z
+
+-- along a list with a known last
+along : (w : Walker) (es : List Hyperedge) (z : Hyperedge) → moveAlong w (es ++ (z ∷ []))
+    ≡ toOneOf (w .at) (xorshift (w .state)) (others (w .at) (firstGreater (sample (xorshift (w .state)) (totalWeight (es ++ (z ∷ [])))) z 0 (es ++ (z ∷ [])) .members))
+unfolding moveAlong lastOf
+along w [] z = refl
+along w (e ∷ es) z = rw (last-snoc e es z)
+
+module _ (ws : List ℕ) (w : Walker) (n : ℕ) (e : Ends ws (w .at) n) where
+  pub move-none : n ≡ 0 → w ≡ move (read limit ws) w
+  unfolding move moveAlong
+  move-none q = rw (← e .among, q, listing-none ws (w .at))
+
+  pub move-one : (n ≡ 0 → ⊥) → (draw j : ℕ) → draw ≡ xorshift (w .state) → Greater ws (listing ws (w .at) n) n (sample draw (totalWeight (listing ws (w .at) n))) j
+      → (ms : List ℕ) → ms ≡ membersAt limit ws j → (r : Walker) → r ≡ toOneOf (w .at) draw (others (w .at) ms) → r ≡ move (read limit ws) w
+  unfolding move
+  move-one h draw j d g ms m r q =
+      let z : Hyperedge = hyperedgeAt limit ws (n - 1) in
+      let f : membersAt limit ws j ≡ firstGreater (sample draw (totalWeight (listing ws (w .at) n))) z 0 (listing ws (w .at) n) .members = ap (λ (e : Hyperedge). e .members) (g .taken) in
+      q ∙ rw (m, f, d, ends-with ws (w .at) n e h) (sym (along w (listing ws (w .at) (n - 1)) z)) ∙ ap (moveAlong w) (sym (ends-with ws (w .at) n e h) ∙ e .among)
+
+-- ---- the loop that writes the vertices: i are written, and the walk goes on from the vertex with the state
+
+pub record Wrote (t : Table) (w : Walker) (n : ℕ) (out₀ : List ℕ) (v state i : ℕ) (out : List ℕ) : Type 0 where
+  pub within : i ≤ n
+  pub done : List ℕ
+  pub goes : done ++ walkFrom t (walker v state) (n - i) ≡ walkFrom t w n
+  pub many : length done ≡ i
+  pub wrote : out ≡ over done out₀
+  pub same : length out ≡ length out₀
+
+pub wrote-none : (t : Table) (w : Walker) (n : ℕ) (out₀ : List ℕ) → Wrote t w n out₀ (w .at) (w .state) 0 out₀
+wrote-none t w n out₀ = record { within = omega arith; done = []; goes = let s : n - 0 ≡ n = omega arith in rw s; many = refl; wrote = sym (over-none out₀); same = refl }
+
+turn : (t : Table) (n v state i : ℕ) (next : Walker) → i < n → next ≡ move t (walker v state) → walkFrom t (walker v state) (n - i) ≡ v ∷ walkFrom t next (n - (i + 1))
+unfolding walkFrom
+turn t n v state i next h e = let s : n - i ≡ suc (n - (i + 1)) = omega arith in rw (s, e)
+
+pub wrote-more : (t : Table) (w : Walker) (n : ℕ) (out₀ : List ℕ) (v state i : ℕ) (out : List ℕ) → Wrote t w n out₀ v state i out
+    → (next : Walker) → i < n → n ≤ length out₀ → next ≡ move t (walker v state) → Wrote t w n out₀ (next .at) (next .state) (i + 1) (set out i v)
+wrote-more t w n out₀ v state i out inv next h l e = record {
+  within = omega arith;
+  done = inv .done ++ (v ∷ []);
+  goes = append-assoc (inv .done) (v ∷ []) (walkFrom t next (n - (i + 1))) ∙ ap (λ (xs : List ℕ). inv .done ++ xs) (sym (turn t n v state i next h e)) ∙ inv .goes;
+  many = omega (arith, length-append (inv .done) (v ∷ []), inv .many);
+  wrote = ap (λ (o : List ℕ). set o i v) (inv .wrote) ∙ over-more (inv .done) out₀ v i (inv .many) (omega arith);
+  same = length-set out i v ∙ inv .same;
+}
+
+pub wrote-end : (t : Table) (w : Walker) (n : ℕ) (out₀ : List ℕ) (v state i : ℕ) (out : List ℕ) → Wrote t w n out₀ v state i out → n ≤ i → out ≡ over (walkFrom t w n) out₀
+unfolding walkFrom
+wrote-end t w n out₀ v state i out inv h =
+    let s : n - i ≡ 0 = omega (arith, inv .within) in
+    inv .wrote ∙ ap (λ (xs : List ℕ). over xs out₀) (sym (append-nil (inv .done)) ∙ (rw s at (inv .goes)))
+
+-- ---- the answer
+
+pub cut-short : (steps : ℕ) → steps ≤ stepLimit → steps ≡ cut steps
+unfolding cut
+cut-short steps h = rw (le-leb steps stepLimit h)
+
+pub cut-long : (steps : ℕ) → stepLimit < steps → stepLimit ≡ cut steps
+unfolding cut
+cut-long steps h = rw (lt-leb steps stepLimit h)
+
+pub state-one : (seed : ℕ) → seed ≡ 0 → 1 ≡ firstState seed
+unfolding firstState
+state-one seed e = rw (eq-eqb seed 0 e)
+
+pub state-seed : (seed : ℕ) → (seed ≡ 0 → ⊥) → seed ≡ firstState seed
+unfolding firstState
+state-seed seed h = rw (ne-eqb seed 0 h)
+
+walk-from-length : (t : Table) (w : Walker) (n : ℕ) → length (walkFrom t w n) ≡ n
+unfolding walkFrom
+walk-from-length t w zero = refl
+walk-from-length t w (suc n) = ap suc (walk-from-length t (move t w) n)
+
+-- n is the cut step count and one more
+module _ (t : Table) (start steps seed n k : ℕ) (out : List ℕ) (ek : k ≡ cut steps) (en : n ≡ k + 1) where
+  counted : n ≡ length (walk t start steps seed)
+  unfolding walk
+  counted = en ∙ ap (λ (i : ℕ). i + 1) ek ∙ sym (walk-from-length t (walker start (firstState seed)) (cut steps + 1))
+
+  pub walk-over : length out < n → result (NoRoom n) out ≡ listed (walk t start steps seed) out
+  walk-over h = listed-over _ out n counted h
+
+  pub walk-fits : (state : ℕ) (exit : List ℕ) → n ≤ length out → state ≡ firstState seed → exit ≡ over (walkFrom t (walker start state) n) out
+      → result (Done n) exit ≡ listed (walk t start steps seed) out
+  unfolding walk
+  walk-fits state exit h s q = listed-fits _ out n counted exit h (q ∙ rw (s, en, ek))
+
+module _ (ws : List ℕ) (start steps seed : ℕ) (lent : List ℕ) (p : Found) (e : p ≡ position start (liveVertices (read limit ws))) where
+  pub start-missing : p ≡ Nothing → result (vertexMissing start) lent ≡ walkResult start steps seed lent (read limit ws)
+  unfolding walkResult
+  start-missing h = on-missing (liveVertices (read limit ws)) vertexMissing start lent _ p e h
+
+  pub start-found : (i : ℕ) (r : Result) → p ≡ At i → r ≡ listed (walk (read limit ws) start steps seed) lent → r ≡ walkResult start steps seed lent (read limit ws)
+  unfolding walkResult
+  start-found i r h q = q ∙ on-found (liveVertices (read limit ws)) vertexMissing start lent _ p e i h

@@ -1,0 +1,28 @@
+-- `walk::to_one_of` meets its contract. Assumes nothing.
+use Rattle.walk.proofs.Others.{stays, goes, picked-below}
+use borrow.Author.Needs.{needs}
+use Rattle.walk.proofs.to_one_of.Statement.{statement}
+use Rattle.walk.proofs.to_one_of.Tie as tie
+
+count-others-requires : tie.Need-count-others-requires
+count-others-requires c κs = search needs
+
+returns : tie.Need-returns
+returns c = search stays
+
+xorshift-requires : tie.Need-xorshift-requires
+xorshift-requires c κs = search needs
+
+rem-k : tie.Need-rem-k
+rem-k c = search needs
+
+other-at-requires : tie.Need-other-at-requires
+other-at-requires c κs = search picked-below
+
+returns-2 : tie.Need-returns-2
+returns-2 c = search goes
+
+pub to-one-of-spec : {M : Type 1} → statement M
+to-one-of-spec =
+    tie.close
+    (tie.spec count-others-requires returns xorshift-requires rem-k other-at-requires returns-2)
