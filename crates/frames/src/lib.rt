@@ -1,0 +1,1 @@
+// Frame text: a table's content written as lines of capital hexadecimal.
