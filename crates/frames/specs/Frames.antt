@@ -16,6 +16,12 @@ byteOf x unit = x / unit % 256
 unfoldable pub numberBytes : ℕ → List ℕ
 numberBytes x = byteOf x 16777216 ∷ byteOf x 65536 ∷ byteOf x 256 ∷ byteOf x 1 ∷ []
 
+abbrev pub vertexOf : ℕ → ℕ → Vertex
+vertexOf number weight = record { number = number; weight = weight }
+
+abbrev pub hyperedgeOf : ℕ → ℕ → List ℕ → Hyperedge
+hyperedgeOf number weight members = record { number = number; weight = weight; members = members }
+
 -- two bytes
 unfoldable pub shortBytes : ℕ → List ℕ
 shortBytes x = byteOf x 256 ∷ byteOf x 1 ∷ []
@@ -62,6 +68,9 @@ byteDigits b = digit (b / 16) ∷ digit (b % 16) ∷ []
 
 unfoldable pub digits : List ℕ → List ℕ
 digits bs = flat byteDigits bs
+
+abbrev pub numberDigits : ℕ → List ℕ
+numberDigits x = digits (numberBytes x)
 
 -- a line feed
 abbrev pub lineEnd : List ℕ

@@ -8,11 +8,9 @@ use lib.ListN.{length, take, drop}
 unfoldable pub pasted : ℕ → List ℕ → List ℕ → List ℕ
 pasted at xs text = take at text ++ (xs ++ drop (at + length xs) text)
 
--- there is room for xs from `at` on
-pub record Fits (at : ℕ) (xs text : List ℕ) : Type 0 where
-  pub room : at + length xs ≤ length text
-
--- xs was put at `at`, and `next` is the place behind it
-pub record Put (at : ℕ) (xs before after : List ℕ) (next : ℕ) : Type 0 where
-  pub reached : next ≡ at + length xs
+-- the n bytes xs were put at `at`, where there was room for them, and `next` is the place behind them
+pub record Put (at n : ℕ) (xs before after : List ℕ) (next : ℕ) : Type 0 where
+  pub sized : length xs ≡ n
+  pub fits : at + n ≤ length before
+  pub reached : next ≡ at + n
   pub wrote : after ≡ pasted at xs before
