@@ -72,7 +72,7 @@ short-put x f g = put-as refl refl (put-append f g)
 
 pub number-put : (x w : ℕ) {at p q r s : ℕ} {a b c d e : List ℕ} → w ≡ x → Put at 2 (byteDigits (byteOf w 16777216)) a b p → Put p 2 (byteDigits (byteOf w 65536)) b c q
     → Put q 2 (byteDigits (byteOf w 256)) c d r → Put r 2 (byteDigits (byteOf w 1)) d e s → Put at 8 (numberDigits x) a e s
-unfolding digits flat numberBytes byteDigits
+unfolding numberDigits digits flat numberBytes byteDigits
 number-put x w i f g h k = put-as refl (rw i) (put-append f (put-append g (put-append h k)))
 
 pub short-sum-is : (x a b : ℕ) → a ≡ byteOf x 256 → b ≡ byteOf x 1 → (a + b ≡ byteSum (shortBytes x)) × (a + b ≤ 510)

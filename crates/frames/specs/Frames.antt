@@ -1,7 +1,7 @@
 -- Frame text: what a content is written as, over bytes as numbers. Assumes nothing.
 use mathlib.Core.Bool.{cond}
 use mathlib.Core.List.{List, [], _∷_, _++_}
-use Prim.Native.Nat.{ℕ, _+_, _-_, _/_, _%_}
+use Prim.Native.Nat.{ℕ, _+_, _-_, _*_, _/_, _%_}
 use lib.Dec.{ltb}
 use lib.ListN.{length}
 use Rattle.lists.specs.Lists.{flat}
@@ -69,7 +69,7 @@ byteDigits b = digit (b / 16) ∷ digit (b % 16) ∷ []
 unfoldable pub digits : List ℕ → List ℕ
 digits bs = flat byteDigits bs
 
-abbrev pub numberDigits : ℕ → List ℕ
+unfoldable pub numberDigits : ℕ → List ℕ
 numberDigits x = digits (numberBytes x)
 
 -- a line feed
@@ -79,6 +79,19 @@ lineEnd = 10 ∷ []
 -- one frame a line
 unfoldable pub line : List ℕ → List ℕ
 line frame = digits (sealed frame) ++ lineEnd
+
+-- the bytes of a head line, of a vertex line, of a member, and of a hyperedge line with k members
+abbrev pub headLength : ℕ
+headLength = 33
+
+abbrev pub vertexLength : ℕ
+vertexLength = 21
+
+abbrev pub memberLength : ℕ
+memberLength = 8
+
+abbrev pub hyperedgeLength : ℕ → ℕ
+hyperedgeLength k = 23 + k * memberLength
 
 unfoldable pub headLine : Table → List ℕ
 headLine t = line (headFrame (t .nextVertex) (t .nextHyperedge) (length (t .vertices)) (length (t .hyperedges)))
