@@ -1,8 +1,8 @@
 -- Bytes as digits: where they are put, and their sums. Assumes nothing.
-use mathlib.Core.Path.{_≡_, refl, sym, ap, _∙_}
+use mathlib.Core.Path.{_≡_, refl, _∙_}
 use mathlib.Core.Bool.{Bool, true}
 use mathlib.Core.List.{List, [], _∷_, _++_, append-assoc}
-use Prim.Native.Nat.{ℕ, zero, suc, _+_, _/_, _%_, _≤_, _<_}
+use Prim.Native.Nat.{ℕ, _+_, _/_, _%_, _≤_, _<_}
 use native.Mathlib.Nat.{le-antisymm}
 use native.Mathlib.Numerals.{add-one}
 use native.Mathlib.Omega.{arith}
@@ -13,7 +13,7 @@ use borrow.Author.Tests.{eqb-true}
 use Rattle.lists.specs.Tests.{_and_, every}
 use Rattle.lists.specs.Lists.{flat}
 use Rattle.lists.proofs.Every.{every-at}
-use Rattle.frames.specs.Frames.{byteOf, numberBytes, shortBytes, byteSum, balance, digit, byteDigits, digits, numberDigits, lineEnd}
+use Rattle.frames.specs.Frames.{byteValues, byteOf, numberBytes, shortBytes, byteSum, balance, digit, byteDigits, digits, numberDigits, lineEnd}
 use Rattle.frames.specs.Put.{pasted, Put}
 use Rattle.frames.proofs.Laws.{put-append, put-as}
 
@@ -65,28 +65,28 @@ module _ (d text : List ℕ) (at : ℕ) (s : List ℕ) (j : ℕ) (e : text ≡ p
 
 -- ---- numbers; w is what `wide` made of x
 
-pub short-put : (x : ℕ) {at p q : ℕ} {a b c : List ℕ} → Put at 2 (byteDigits (byteOf x 256)) a b p → Put p 2 (byteDigits (byteOf x 1)) b c q
+pub short-put : (x : ℕ) {at p q : ℕ} {a b c : List ℕ} → Put at 2 (byteDigits (byteOf x byteValues)) a b p → Put p 2 (byteDigits (byteOf x 1)) b c q
     → Put at 4 (digits (shortBytes x)) a c q
 unfolding digits flat shortBytes byteDigits
 short-put x f g = put-as refl refl (put-append f g)
 
 pub number-put : (x w : ℕ) {at p q r s : ℕ} {a b c d e : List ℕ} → w ≡ x → Put at 2 (byteDigits (byteOf w 16777216)) a b p → Put p 2 (byteDigits (byteOf w 65536)) b c q
-    → Put q 2 (byteDigits (byteOf w 256)) c d r → Put r 2 (byteDigits (byteOf w 1)) d e s → Put at 8 (numberDigits x) a e s
+    → Put q 2 (byteDigits (byteOf w byteValues)) c d r → Put r 2 (byteDigits (byteOf w 1)) d e s → Put at 8 (numberDigits x) a e s
 unfolding numberDigits digits flat numberBytes byteDigits
 number-put x w i f g h k = put-as refl (rw i) (put-append f (put-append g (put-append h k)))
 
-pub short-sum-is : (x a b : ℕ) → a ≡ byteOf x 256 → b ≡ byteOf x 1 → (a + b ≡ byteSum (shortBytes x)) × (a + b ≤ 510)
+pub short-sum-is : (x a b : ℕ) → a ≡ byteOf x byteValues → b ≡ byteOf x 1 → (a + b ≡ byteSum (shortBytes x)) × (a + b ≤ 510)
 unfolding byteSum shortBytes
 short-sum-is x a b p q = (omega arith, omega arith)
 
-pub number-sum-is : (x w a b c d : ℕ) → w ≡ x → a ≡ byteOf w 16777216 → b ≡ byteOf w 65536 → c ≡ byteOf w 256 → d ≡ byteOf w 1
+pub number-sum-is : (x w a b c d : ℕ) → w ≡ x → a ≡ byteOf w 16777216 → b ≡ byteOf w 65536 → c ≡ byteOf w byteValues → d ≡ byteOf w 1
     → (a + b + c + d ≡ byteSum (numberBytes x)) × (a + b + c + d ≤ 1020)
 unfolding byteSum numberBytes
 number-sum-is x w a b c d e p q r s = (rw (p, q, r, s, e) (omega arith), omega arith)
 
 -- ---- the last byte of a frame, and the line feed; b is what `balance` made of the sum
 
-pub balance-low : (sum b : ℕ) → b ≡ balance sum → b < 256
+pub balance-low : (sum b : ℕ) → b ≡ balance sum → b < byteValues
 unfolding balance
 balance-low sum b e = omega arith
 

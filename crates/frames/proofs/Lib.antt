@@ -1,5 +1,5 @@
-pub mod Example
 pub mod Laws
 pub mod Bytes
 pub mod Lines
 pub mod Text
+pub mod Document

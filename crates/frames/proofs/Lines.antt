@@ -1,15 +1,15 @@
 -- Lines: what their parts, put one after the other, make up, and their sums. Assumes nothing.
 use mathlib.Core.Path.{_≡_, refl, sym, ap, _∙_}
 use mathlib.Core.List.{List, [], _∷_, _++_, append-assoc}
-use Prim.Native.Nat.{ℕ, _+_, _*_, _≤_, _<_}
-use native.Mathlib.Nat.{add-zero, add-assoc, le-antisymm}
+use Prim.Native.Nat.{ℕ, _+_, _-_, _*_, _%_, _≤_, _<_}
+use native.Mathlib.Nat.{add-zero}
 use native.Mathlib.Numerals.{add-one}
 use native.Mathlib.Omega.{arith}
-use lib.ListN.{length, getD, take, drop, take-append-drop}
-use lib.Seq.{take-suc, take-length, take-all}
+use lib.ListN.{length, getD, take, take-append-drop}
+use lib.Seq.{take-suc, take-all}
 use Rattle.lists.specs.Lists.{flat}
 use Rattle.lists.proofs.Flat.{flat-snoc}
-use Rattle.frames.specs.Frames.{numberBytes, shortBytes, mark, headFrame, vertexFrame, hyperedgeFrame, byteSum, balance, check, sealed, digit, byteDigits, digits, numberDigits, lineEnd, line, vertexLine, hyperedgeLine, vertexOf, hyperedgeOf, headLength, vertexLength, memberLength, hyperedgeLength}
+use Rattle.frames.specs.Frames.{byteValues, numberBytes, shortBytes, headFrame, vertexFrame, hyperedgeFrame, byteSum, balance, check, sealed, digit, byteDigits, digits, numberDigits, lineEnd, line, vertexLine, hyperedgeLine, vertexOf, hyperedgeOf, headLength, vertexLength, memberLength, hyperedgeLength}
 use Rattle.frames.specs.Put.{pasted, Put}
 use Rattle.frames.proofs.Laws.{put-append, put-as}
 
@@ -22,6 +22,14 @@ sum-append : (xs ys : List ℕ) → byteSum (xs ++ ys) ≡ byteSum xs + byteSum 
 unfolding byteSum
 sum-append [] ys = omega arith
 sum-append (x ∷ xs) ys = omega (arith, sum-append xs ys)
+
+-- the last byte of a frame makes its byte sum 0 modulo 256
+pub sealed-sum : (frame : List ℕ) → byteSum (sealed frame) % byteValues ≡ 0
+unfolding sealed check balance byteSum
+sealed-sum frame = rw sum-append (one (byteSum frame))
+  where
+    one : (s : ℕ) → (s + byteSum ((byteValues - s % byteValues) % byteValues ∷ [])) % byteValues ≡ 0
+    one s = omega arith
 
 -- the digits of a frame, then its last byte and the line feed
 line-put : (frame : List ℕ) (sum : ℕ) {at n p q : ℕ} {a b c : List ℕ} → sum ≡ byteSum frame → Put at n (digits frame) a b p → Put p 3 (byteDigits (balance sum) ++ lineEnd) b c q
@@ -43,14 +51,14 @@ unfolding headFrame numberDigits digits flat numberBytes shortBytes byteDigits d
 head-is x y n m = refl
 
 head-sum : (x y n m : ℕ) {a b c d : ℕ} → a ≡ byteSum (numberBytes x) → b ≡ byteSum (numberBytes y) → c ≡ byteSum (shortBytes n) → d ≡ byteSum (shortBytes m)
-    → 192 + (a + b) + (c + d) ≡ byteSum (headFrame x y n m)
+    → 72 + 71 + 49 + (a + b) + (c + d) ≡ byteSum (headFrame x y n m)
 unfolding headFrame byteSum
 head-sum x y n m e f g h = simp sum-append (omega arith)
 
 pub head-put : (x y n m : ℕ) {p q r s u v i j k l : ℕ} {a b c d e f g : List ℕ}
     → Put 0 6 opening a b p → Put p 8 (numberDigits x) b c q → Put q 8 (numberDigits y) c d r → Put r 4 (digits (shortBytes n)) d e s → Put s 4 (digits (shortBytes m)) e f u
     → i ≡ byteSum (numberBytes x) → j ≡ byteSum (numberBytes y) → k ≡ byteSum (shortBytes n) → l ≡ byteSum (shortBytes m)
-    → Put u 3 (byteDigits (balance (192 + (i + j) + (k + l))) ++ lineEnd) f g v → Put 0 headLength (line (headFrame x y n m)) a g v
+    → Put u 3 (byteDigits (balance (72 + 71 + 49 + (i + j) + (k + l))) ++ lineEnd) f g v → Put 0 headLength (line (headFrame x y n m)) a g v
 head-put x y n m o p q r s ei ej ek el z =
     line-put (headFrame x y n m) _ (head-sum x y n m ei ej ek el) (put-as refl (head-is x y n m) (put-append o (put-append p (put-append q (put-append r s))))) z
 

@@ -12,9 +12,9 @@ use Rattle.lists.proofs.Tab.{tab-suc, length-tab}
 use Rattle.lists.proofs.Flat.{flat-snoc, flat-length}
 use Rattle.layout.specs.declared.Answer.the-variants.{Done, NoRoom}
 use Rattle.layout.specs.Content.{Vertex, Hyperedge, Table}
-use Rattle.layout.specs.Layout.{nextVertexIn, nextHyperedgeIn, vertexCount, hyperedgeCount, vertexAt, membersAt, hyperedgeAt, hyperedgeWord, vertexWord, read}
+use Rattle.layout.specs.Layout.{nextVertexIn, nextHyperedgeIn, vertexCount, hyperedgeCount, vertexAt, membersAt, hyperedgeAt, read}
 use Rattle.layout.specs.WellFormed.{Formed}
-use Rattle.layout.specs.Answers.{result, listed}
+use Rattle.layout.specs.Answers.{result}
 use Rattle.layout.proofs.Answers.{listed-over, listed-fits}
 use Rattle.layout.proofs.Read.{members-le}
 use Rattle.frames.specs.Frames.{numberBytes, shortBytes, headFrame, vertexFrame, hyperedgeFrame, check, sealed, byteDigits, digits, line, headLine, vertexLine, hyperedgeLine, frameText, vertexOf, hyperedgeOf, headLength, vertexLength, memberLength, hyperedgeLength, writeResult}

@@ -8,23 +8,21 @@ use Rattle.lists.specs.Lists.{flat}
 use Rattle.layout.specs.Content.{Vertex, Hyperedge, Table}
 use Rattle.layout.specs.Answers.{Result, listed}
 
+-- how many values a byte has
+abbrev pub byteValues : ℕ
+byteValues = 256
+
 -- the byte of x that counts the units
 abbrev pub byteOf : ℕ → ℕ → ℕ
-byteOf x unit = x / unit % 256
+byteOf x unit = x / unit % byteValues
 
 -- numbers are four bytes, high first
 unfoldable pub numberBytes : ℕ → List ℕ
-numberBytes x = byteOf x 16777216 ∷ byteOf x 65536 ∷ byteOf x 256 ∷ byteOf x 1 ∷ []
-
-abbrev pub vertexOf : ℕ → ℕ → Vertex
-vertexOf number weight = record { number = number; weight = weight }
-
-abbrev pub hyperedgeOf : ℕ → ℕ → List ℕ → Hyperedge
-hyperedgeOf number weight members = record { number = number; weight = weight; members = members }
+numberBytes x = byteOf x 16777216 ∷ byteOf x 65536 ∷ byteOf x byteValues ∷ byteOf x 1 ∷ []
 
 -- two bytes
 unfoldable pub shortBytes : ℕ → List ℕ
-shortBytes x = byteOf x 256 ∷ byteOf x 1 ∷ []
+shortBytes x = byteOf x byteValues ∷ byteOf x 1 ∷ []
 
 -- 48 47 31
 abbrev pub mark : List ℕ
@@ -50,7 +48,7 @@ byteSum (b ∷ bs) = b + byteSum bs
 
 -- the byte that makes a byte sum 0 modulo 256
 unfoldable pub balance : ℕ → ℕ
-balance sum = (256 - sum % 256) % 256
+balance sum = (byteValues - sum % byteValues) % byteValues
 
 -- the last byte of a frame
 unfoldable pub check : List ℕ → ℕ
@@ -101,6 +99,13 @@ vertexLine v = line (vertexFrame v)
 
 unfoldable pub hyperedgeLine : Hyperedge → List ℕ
 hyperedgeLine e = line (hyperedgeFrame e)
+
+-- a vertex and a hyperedge from their parts
+abbrev pub vertexOf : ℕ → ℕ → Vertex
+vertexOf number weight = record { number = number; weight = weight }
+
+abbrev pub hyperedgeOf : ℕ → ℕ → List ℕ → Hyperedge
+hyperedgeOf number weight members = record { number = number; weight = weight; members = members }
 
 unfoldable pub frameText : Table → List ℕ
 frameText t = headLine t ++ (flat vertexLine (t .vertices) ++ flat hyperedgeLine (t .hyperedges))

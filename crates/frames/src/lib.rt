@@ -1,17 +1,20 @@
 // Frame text: a table's content written as lines of capital hexadecimal.
 ghost use mathlib.Core.Path.{_≡_};
 ghost use mathlib.Core.List.{_++_};
-ghost use Prim.Native.Nat.{ℕ, _+_, _*_, _<_, _≤_};
+ghost use Prim.Native.Nat.{_+_, _*_, _<_, _≤_};
 ghost use lib.ListN.{length};
 ghost use Rattle.lists.specs.Lists.{tab, flat};
-ghost use Rattle.layout.specs.Layout.{limit, vertexLimit, hyperedgeLimit, size, vertexCount, hyperedgeCount, vertexAt, hyperedgeAt, countAt, membersAt, readVertices, readHyperedges, read};
+ghost use Rattle.layout.specs.Layout.{limit, vertexLimit, size, hyperedgeCount, vertexAt, hyperedgeAt, membersAt, read};
 ghost use Rattle.layout.specs.WellFormed.{Formed};
 ghost use Rattle.layout.specs.Answers.{result, onFormed};
-ghost use Rattle.frames.specs.Frames.{byteOf, numberBytes, shortBytes, headFrame, byteSum, balance, digit, byteDigits, digits, lineEnd, line, headLine, vertexLine, hyperedgeLine, frameText, numberDigits, vertexOf, hyperedgeOf, headLength, vertexLength, memberLength, hyperedgeLength, writeResult};
+ghost use Rattle.frames.specs.Frames.{byteOf, numberBytes, shortBytes, headFrame, byteSum, balance, digit, byteDigits, digits, lineEnd, line, vertexLine, hyperedgeLine, frameText, numberDigits, vertexOf, hyperedgeOf, headLength, vertexLength, memberLength, hyperedgeLength, writeResult};
 ghost use Rattle.frames.specs.Put.{Put};
 use layout::Answer;
 
 const DIGITS: [u8; 16] = *b"0123456789ABCDEF";
+
+// How many values a byte has.
+const BYTE_VALUES: usize = 256;
 
 // The bytes of a head line, of a vertex line, of a hyperedge line with no member, and of a member.
 const HEAD_LENGTH: usize = 33;
@@ -64,7 +67,7 @@ fn byte_of(x: usize, unit: usize) -> usize
     requires { ⌜ 0 < unit ⌝ }
     ensures { λ r. ⌜ r ≡ byteOf x unit ⌝ }
 {
-    x / unit % 256
+    x / unit % BYTE_VALUES
 }
 
 fn put_byte_of(text: &mut [u8], at: usize, x: usize, unit: usize) -> usize
@@ -78,7 +81,7 @@ fn put_short(text: &mut [u8], at: usize, x: usize) -> usize
     requires { ⌜ at + 4 ≤ length (now text) ⌝ }
     ensures { λ r. ⌜ Put at 4 (digits (shortBytes x)) (now (text .entry)) (now (text .exit)) r ⌝ }
 {
-    let a = put_byte_of(text, at, x, 256);
+    let a = put_byte_of(text, at, x, BYTE_VALUES);
     put_byte_of(text, a, x, 1)
 }
 
@@ -89,7 +92,7 @@ fn put_number(text: &mut [u8], at: usize, x: u32) -> usize
     let w = wide(x);
     let a = put_byte_of(text, at, w, 16777216);
     let b = put_byte_of(text, a, w, 65536);
-    let c = put_byte_of(text, b, w, 256);
+    let c = put_byte_of(text, b, w, BYTE_VALUES);
     put_byte_of(text, c, w, 1)
 }
 
@@ -98,21 +101,21 @@ fn put_number(text: &mut [u8], at: usize, x: u32) -> usize
 fn short_sum(x: usize) -> usize
     ensures { λ r. ⌜ (r ≡ byteSum (shortBytes x)) × (r ≤ 510) ⌝ }
 {
-    byte_of(x, 256) + byte_of(x, 1)
+    byte_of(x, BYTE_VALUES) + byte_of(x, 1)
 }
 
 fn number_sum(x: u32) -> usize
     ensures { λ r. ⌜ (r ≡ byteSum (numberBytes x)) × (r ≤ 1020) ⌝ }
 {
     let w = wide(x);
-    byte_of(w, 16777216) + byte_of(w, 65536) + byte_of(w, 256) + byte_of(w, 1)
+    byte_of(w, 16777216) + byte_of(w, 65536) + byte_of(w, BYTE_VALUES) + byte_of(w, 1)
 }
 
 // The byte that makes the sum 0 modulo 256.
 fn balance(sum: usize) -> usize
     ensures { λ r. ⌜ r ≡ balance sum ⌝ }
 {
-    (256 - sum % 256) % 256
+    (BYTE_VALUES - sum % BYTE_VALUES) % BYTE_VALUES
 }
 
 // The last byte of a frame whose bytes before it have the sum, and the line feed.
@@ -198,7 +201,12 @@ fn put_vertex_at(text: &mut [u8], at: usize, t: &[u32], i: usize) -> usize
     requires { ⌜ at + vertexLength ≤ length (now text) ⌝ }
     ensures { λ r. ⌜ Put at vertexLength (vertexLine (vertexAt (now (t .entry)) i)) (now (text .entry)) (now (text .exit)) r ⌝ }
 {
-    put_vertex(text, at, layout::vertex_number(t, i), layout::vertex_weight(t, i))
+    put_vertex(
+        text,
+        at,
+        layout::vertex_number(t, i),
+        layout::vertex_weight(t, i),
+    )
 }
 
 fn put_vertices(text: &mut [u8], at: usize, t: &[u32], n: usize) -> usize
@@ -222,7 +230,13 @@ fn put_hyperedge_at(text: &mut [u8], at: usize, t: &[u32], j: usize) -> usize
     ensures { λ r. ⌜ Put at (hyperedgeLength (length (membersAt limit (now (t .entry)) j))) (hyperedgeLine (hyperedgeAt limit (now (t .entry)) j)) (now (text .entry)) (now (text .exit)) r ⌝ }
 {
     let members = layout::members_formed(t, j);
-    put_hyperedge(text, at, layout::hyperedge_number(t, j), layout::hyperedge_weight(t, j), members)
+    put_hyperedge(
+        text,
+        at,
+        layout::hyperedge_number(t, j),
+        layout::hyperedge_weight(t, j),
+        members,
+    )
 }
 
 fn put_hyperedges(text: &mut [u8], at: usize, t: &[u32], m: usize) -> usize
@@ -279,7 +293,13 @@ fn put_text(text: &mut [u8], t: &[u32]) -> usize
 {
     let n = layout::vertex_count(t);
     let m = layout::hyperedge_count(t);
-    let a = put_head(text, layout::next_vertex(t), layout::next_hyperedge(t), n, m);
+    let a = put_head(
+        text,
+        layout::next_vertex(t),
+        layout::next_hyperedge(t),
+        n,
+        m,
+    );
     let b = put_vertices(text, a, t, n);
     put_hyperedges(text, b, t, m)
 }

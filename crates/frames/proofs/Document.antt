@@ -1,11 +1,19 @@
--- The document's example: the text of vertices 0 (weight 7) and 1 (weight 9) and hyperedge 0 of weight 5 with list 0, 1. Assumes nothing.
+-- The document's words on the text: its opening, and its example in full. Assumes nothing.
 use mathlib.Core.Path.{_≡_, refl}
 use mathlib.Core.List.{List, [], _∷_, _++_}
 use Prim.Native.Nat.{ℕ}
+use lib.ListN.{take}
 use Rattle.layout.specs.Content.{Table}
 use Rattle.lists.specs.Lists.{flat}
 use Rattle.frames.specs.Frames.{numberBytes, shortBytes, headFrame, vertexFrame, hyperedgeFrame, byteSum, balance, check, sealed, digit, byteDigits, digits, line, headLine, vertexLine, hyperedgeLine, frameText}
+use Rattle.frames.proofs.Lines.{opening}
 
+-- the text opens with the six characters 484731
+pub opens : (t : Table) → take 6 (frameText t) ≡ opening
+unfolding flat headFrame sealed digit byteDigits digits line headLine frameText
+opens t = refl
+
+-- vertices 0 (weight 7) and 1 (weight 9), hyperedge 0 of weight 5 with list 0, 1
 abbrev content : Table
 content = record {
   nextVertex = 2;
