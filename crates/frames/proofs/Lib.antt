@@ -1,0 +1,5 @@
+pub mod Laws
+pub mod Bytes
+pub mod Lines
+pub mod Text
+pub mod Document
