@@ -15,7 +15,7 @@ use Rattle.lists.specs.Lists.{filter, tab}
 use Rattle.lists.proofs.Cases.{on}
 use Rattle.lists.proofs.Tab.{drop-tab, length-tab}
 use Rattle.layout.specs.Steps.{Step, stepsOf}
-use Rattle.layout.specs.Layout.{hyperedgeCount, hyperedgeAt, membersAt}
+use Rattle.layout.specs.Layout.{hyperedgeCount, hyperedgeAt, membersAt, readHyperedges}
 use Rattle.layout.specs.WellFormed.{Formed}
 use Rattle.layout.proofs.Read.{members-le}
 use Rattle.lookups.specs.Lookups.{end, stepAt, hasEnd, places, placesIn, sum}
@@ -95,6 +95,18 @@ module _ {p : Step → Bool} {ms : List ℕ} {i n : ℕ} (c : Counted p ms i n) 
   unfolding places filter
   counted-end h = omega (arith, c .left, ap (λ (ss : List Step). length (filter p ss)) (steps-end ms i h))
 
+-- a loop over j along m records has none left
+records-end : {A : Type 0} (g : ℕ → A) (m j : ℕ) → m ≤ j → drop j (tab g m) ≡ []
+records-end g m j h = drop-of-length-le (tab g m) {i = j} (rw length-tab h)
+
+-- m is what `hyperedge_count` found
+module _ (L : ℕ) (ws : List ℕ) {m j : ℕ} (e : m ≡ hyperedgeCount ws) where
+  pub records-more : j < m → drop j (readHyperedges L ws) ≡ hyperedgeAt L ws j ∷ drop (j + 1) (readHyperedges L ws)
+  records-more h = drop-tab (hyperedgeAt L ws) (hyperedgeCount ws) j (omega arith)
+
+  pub records-none : m ≤ j → drop j (readHyperedges L ws) ≡ []
+  records-none h = records-end (hyperedgeAt L ws) (hyperedgeCount ws) j (omega arith)
+
 -- ---- sums: a loop over j that adds up the m records of g, each at most `most`
 
 pub record Summed {A : Type 0} (f : A → ℕ) (g : ℕ → A) (m most j n : ℕ) : Type 0 where
@@ -114,7 +126,7 @@ module _ {A : Type 0} {f : A → ℕ} {g : ℕ → A} {m most j n : ℕ} (s : Su
 
   pub summed-end : m ≤ j → n ≡ sum f (tab g m)
   unfolding sum
-  summed-end h = omega (arith, s .left, ap (sum f) (drop-of-length-le (tab g m) {i = j} (rw length-tab h)))
+  summed-end h = omega (arith, s .left, ap (sum f) (records-end g m j h))
 
 -- x is what a count of the places of record j's members found
 module _ (L : ℕ) (ws ms : List ℕ) (j : ℕ) (e : ms ≡ membersAt L ws j) (p : Step → Bool) (x : ℕ) (q : x ≡ places p ms) where

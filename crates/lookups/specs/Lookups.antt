@@ -38,6 +38,28 @@ isRelated rel t v y = any (relates rel v y) (t .hyperedges)
 unfoldable pub related : Relation → ℕ → Table → List ℕ
 related rel v t = filter (isRelated rel t v) (liveVertices t)
 
+-- ---- marks
+
+-- y passes with some element of the list, or with x
+unfoldable pub someOf : {A : Type 0} → (ℕ → A → Bool) → List A → ℕ → Bool
+someOf r xs y = any (r y) xs
+
+abbrev pub with : {A : Type 0} → (ℕ → A → Bool) → A → ℕ → Bool
+with r x y = r y x
+
+-- member m is y, and is not v
+unfoldable pub isOther : ℕ → ℕ → ℕ → Bool
+isOther v y m = eqb y m and not (eqb m v)
+
+-- no vertex is marked
+unfoldable pub noMarks : List Bool
+noMarks = replicate vertexLimit false
+
+-- what was marked still is, and besides every live vertex that passes the test
+pub record MarkedBy (live : List ℕ) (p : ℕ → Bool) (old new : List Bool) : Type 0 where
+  pub sized : length new ≡ length old
+  pub each : (k : ℕ) → k < length live → isMarked new k ≡ (isMarked old k || p (getD live k 0))
+
 -- ---- places
 
 abbrev pub end : Bool → Step → ℕ
