@@ -1,3 +1,4 @@
 pub mod Places
 pub mod Found
 pub mod Marking
+pub mod Laid

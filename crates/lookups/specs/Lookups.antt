@@ -1,6 +1,6 @@
 -- What each lookup counts or lists, over a table's content. Assumes nothing.
 use mathlib.Core.Path.{_≡_}
-use mathlib.Core.Bool.{Bool, true, false, not, _||_}
+use mathlib.Core.Bool.{Bool, true, false, not, cond, _||_}
 use mathlib.Core.List.{List, [], _∷_, map}
 use Prim.Native.Nat.{ℕ, _+_, _<_}
 use lib.Dec.{eqb}
@@ -13,6 +13,8 @@ use Rattle.layout.specs.Steps.{Step, stepsOf, isStep, makesStep}
 use Rattle.marks.specs.Marks.{isMarked}
 use Rattle.lookups.specs.declared.Relation.{Relation}
 use Rattle.lookups.specs.declared.Relation.the-variants.{From, To, Around}
+use Rattle.lookups.specs.declared.Listing.{Listing}
+use Rattle.lookups.specs.declared.Listing.the-variants.{Connecting, Weighing, Holding}
 
 -- ---- vertices that a hyperedge relates to v
 
@@ -88,3 +90,22 @@ sum f (x ∷ xs) = f x + sum f xs
 -- degrees count every place
 unfoldable pub degree : Bool → ℕ → Table → ℕ
 degree arriving v t = sum (placesIn (hasEnd arriving v)) (t .hyperedges)
+
+-- ---- listings of hyperedges
+
+-- a list that holds v, as length and members
+unfoldable pub held : ℕ → List ℕ → List ℕ
+held v ms = cond (memb v ms) (length ms ∷ ms) []
+
+-- what a listing has of a hyperedge: its number once for each place of the step x to y; its number, if it weighs w;
+-- its list, if that holds v
+unfoldable pub block : Listing → Hyperedge → List ℕ
+block (Connecting x y) e = replicate (placesIn (isStep x y) e) (e .number)
+block (Weighing w) e = cond (eqb (e .weight) w) (e .number ∷ []) []
+block (Holding v) e = held v (e .members)
+
+unfoldable pub blockLength : Listing → Hyperedge → ℕ
+blockLength q e = length (block q e)
+
+unfoldable pub listing : Listing → Table → List ℕ
+listing q t = flat (block q) (t .hyperedges)

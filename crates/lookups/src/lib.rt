@@ -11,7 +11,8 @@ ghost use Rattle.layout.specs.WellFormed.{Formed};
 ghost use Rattle.layout.specs.Steps.{stepsOf, isStep};
 ghost use Rattle.layout.specs.Answers.{result, onFormed, listed};
 ghost use Rattle.lookups.specs.Lookups.{turned, relates, isRelated, someOf, with, isOther, noMarks, MarkedBy, end, stepAt, hasEnd, places, degree};
-ghost use Rattle.lookups.specs.Results.{relatedResult, degreeResult};
+ghost use Rattle.lookups.specs.Results.{relatedResult, degreeResult, connectingResult, weighingResult, fullHyperedgesResult};
+mod blocks;
 use layout::Answer;
 use layout::Found;
 use layout::VertexIndex;
@@ -21,6 +22,13 @@ pub enum Relation {
     From,
     To,
     Around,
+}
+
+// What is listed of the hyperedges: those that step from one vertex to another, those of a weight, or the lists that hold a vertex.
+pub enum Listing {
+    Connecting(u32, u32),
+    Weighing(u32),
+    Holding(u32),
 }
 
 // An end of the step at place i.
@@ -211,4 +219,34 @@ pub fn get_vertex_neighborhood(t: &[u32], v: VertexIndex, out: &mut [u32]) -> An
         return Answer::NotWellFormed;
     }
     list_related(t, Relation::Around, v, out)
+}
+
+// The hyperedges that step from one vertex to another, once for each place. The second vertex need not be live.
+pub fn get_hyperedges_connecting(t: &[u32], from: VertexIndex, to: VertexIndex, out: &mut [u32]) -> Answer
+    ensures { λ r. ⌜ result r (now (out .exit)) ≡ onFormed (now (t .entry)) (now (out .entry)) (connectingResult (from .0) (to .0) (now (out .entry))) ⌝ }
+{
+    if !formed::well_formed(t) {
+        return Answer::NotWellFormed;
+    }
+    blocks::list_of_vertex(t, from, Listing::Connecting(from.0, to.0), out)
+}
+
+// The hyperedges of a weight.
+pub fn find_hyperedges_by_weight(t: &[u32], weight: u32, out: &mut [u32]) -> Answer
+    ensures { λ r. ⌜ result r (now (out .exit)) ≡ onFormed (now (t .entry)) (now (out .entry)) (weighingResult weight (now (out .entry))) ⌝ }
+{
+    if !formed::well_formed(t) {
+        return Answer::NotWellFormed;
+    }
+    blocks::list_blocks(t, Listing::Weighing(weight), out)
+}
+
+// The lists that hold the vertex, each as length and members.
+pub fn get_full_vertex_hyperedges(t: &[u32], v: VertexIndex, out: &mut [u32]) -> Answer
+    ensures { λ r. ⌜ result r (now (out .exit)) ≡ onFormed (now (t .entry)) (now (out .entry)) (fullHyperedgesResult (v .0) (now (out .entry))) ⌝ }
+{
+    if !formed::well_formed(t) {
+        return Answer::NotWellFormed;
+    }
+    blocks::list_of_vertex(t, v, Listing::Holding(v.0), out)
 }
