@@ -2,3 +2,4 @@ pub mod Places
 pub mod Found
 pub mod Marking
 pub mod Laid
+pub mod Weights

@@ -41,7 +41,7 @@ pub mark-one : (L : ℕ) (ws : List ℕ) (x : ℕ) {old new : List Bool} → For
 mark-one L ws x {old} f n e = record {
   sized = ap length e ∙ marking-length (position x (liveVertices (read L ws))) old;
   each = λ k h. ap (λ (m : List Bool). isMarked m k) e
-    ∙ marking-at (liveVertices (read L ws)) x old (live-ascends L ws f) (omega (arith, live-length L ws, f .shape .vertices-le)) k h;
+      ∙ marking-at (liveVertices (read L ws)) x old (live-ascends L ws f) (omega (arith, live-length L ws, f .shape .vertices-le)) k h;
 }
 
 -- ---- a loop: what is marked, or is to be marked by the elements that are left, is what was marked or is to be by all

@@ -8,7 +8,7 @@ use lib.ListN.{length, getD, replicate}
 use Rattle.lists.specs.Tests.{_and_}
 use Rattle.lists.specs.Lists.{any, memb, filter, flat}
 use Rattle.layout.specs.Content.{Vertex, Hyperedge, Table, liveVertices, hyperedgeNumber, vertexNumber, lists}
-use Rattle.layout.specs.Layout.{vertexLimit}
+use Rattle.layout.specs.Layout.{vertexLimit, vertexAt}
 use Rattle.layout.specs.Steps.{Step, stepsOf, isStep, makesStep}
 use Rattle.marks.specs.Marks.{isMarked}
 use Rattle.lookups.specs.declared.Relation.{Relation}
@@ -109,3 +109,19 @@ blockLength q e = length (block q e)
 
 unfoldable pub listing : Listing → Table → List ℕ
 listing q t = flat (block q) (t .hyperedges)
+
+-- ---- vertices of a weight
+
+unfoldable pub weighs : ℕ → Vertex → Bool
+weighs w x = eqb (x .weight) w
+
+-- ascending
+unfoldable pub verticesWeighing : ℕ → Table → List ℕ
+verticesWeighing w t = map vertexNumber (filter (weighs w) (t .vertices))
+
+unfoldable pub hasVertexWeighing : ℕ → Table → Bool
+hasVertexWeighing w t = any (weighs w) (t .vertices)
+
+-- the mark of each record of a weight
+unfoldable pub weighsAt : ℕ → List ℕ → ℕ → Bool
+weighsAt w ws k = weighs w (vertexAt ws k)

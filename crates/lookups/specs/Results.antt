@@ -2,13 +2,14 @@
 use mathlib.Core.Bool.{Bool, true, false}
 use mathlib.Core.List.{List, [], _∷_}
 use Prim.Native.Nat.{ℕ}
+use Rattle.lists.specs.Tests.{bit}
 use Rattle.layout.specs.declared.Answer.the-variants.{Done}
 use Rattle.layout.specs.Content.{Table}
 use Rattle.layout.specs.Answers.{Result, result, onLiveVertex, listed}
 use Rattle.lookups.specs.declared.Relation.{Relation}
 use Rattle.lookups.specs.declared.Listing.{Listing}
 use Rattle.lookups.specs.declared.Listing.the-variants.{Connecting, Weighing, Holding}
-use Rattle.lookups.specs.Lookups.{related, degree, listing}
+use Rattle.lookups.specs.Lookups.{related, degree, listing, verticesWeighing, hasVertexWeighing}
 
 -- get_adjacent_vertices_from and _to, get_vertex_neighborhood: 1, 3, 11
 unfoldable pub relatedResult : Relation → ℕ → List ℕ → Table → Result
@@ -33,3 +34,11 @@ fullHyperedgesResult v out t = listingResult v (Holding v) out t
 -- find_hyperedges_by_weight: 1, 11
 abbrev pub weighingResult : ℕ → List ℕ → Table → Result
 weighingResult w out t = listed (listing (Weighing w) t) out
+
+-- contains_vertex: 1; then yes or no
+abbrev pub containsResult : ℕ → Table → Result
+containsResult w t = result (Done (bit (hasVertexWeighing w t))) []
+
+-- get_vertex_index: 1, 11
+abbrev pub vertexIndexResult : ℕ → List ℕ → Table → Result
+vertexIndexResult w out t = listed (verticesWeighing w t) out

@@ -6,13 +6,16 @@ ghost use Prim.Native.Nat.{ℕ, _+_, _*_, _<_, _≤_};
 ghost use lib.ListN.{length, getD};
 ghost use Rattle.lists.specs.Lists.{memb};
 ghost use Rattle.layout.specs.Content.{liveVertices};
-ghost use Rattle.layout.specs.Layout.{limit, vertexLimit, hyperedgeCount, hyperedgeAt, membersAt, read};
+ghost use Rattle.layout.specs.Layout.{limit, vertexLimit, vertexCount, hyperedgeCount, hyperedgeAt, membersAt, read};
 ghost use Rattle.layout.specs.WellFormed.{Formed};
 ghost use Rattle.layout.specs.Steps.{stepsOf, isStep};
 ghost use Rattle.layout.specs.Answers.{result, onFormed, listed};
-ghost use Rattle.lookups.specs.Lookups.{turned, relates, isRelated, someOf, with, isOther, noMarks, MarkedBy, end, stepAt, hasEnd, places, degree};
-ghost use Rattle.lookups.specs.Results.{relatedResult, degreeResult, connectingResult, weighingResult, fullHyperedgesResult};
+ghost use Rattle.marks.specs.Marks.{isMarked};
+ghost use Rattle.lookups.specs.Lookups.{turned, relates, isRelated, someOf, with, isOther, noMarks, MarkedBy, end, stepAt, hasEnd, places, degree, weighsAt, hasVertexWeighing};
+ghost use Rattle.lookups.specs.Results.{relatedResult, degreeResult, connectingResult, weighingResult, fullHyperedgesResult, containsResult, vertexIndexResult};
+
 mod blocks;
+
 use layout::Answer;
 use layout::Found;
 use layout::VertexIndex;
@@ -222,7 +225,12 @@ pub fn get_vertex_neighborhood(t: &[u32], v: VertexIndex, out: &mut [u32]) -> An
 }
 
 // The hyperedges that step from one vertex to another, once for each place. The second vertex need not be live.
-pub fn get_hyperedges_connecting(t: &[u32], from: VertexIndex, to: VertexIndex, out: &mut [u32]) -> Answer
+pub fn get_hyperedges_connecting(
+    t: &[u32],
+    from: VertexIndex,
+    to: VertexIndex,
+    out: &mut [u32],
+) -> Answer
     ensures { λ r. ⌜ result r (now (out .exit)) ≡ onFormed (now (t .entry)) (now (out .entry)) (connectingResult (from .0) (to .0) (now (out .entry))) ⌝ }
 {
     if !formed::well_formed(t) {
@@ -249,4 +257,73 @@ pub fn get_full_vertex_hyperedges(t: &[u32], v: VertexIndex, out: &mut [u32]) ->
         return Answer::NotWellFormed;
     }
     blocks::list_of_vertex(t, v, Listing::Holding(v.0), out)
+}
+
+// Marks the records of a weight among the n live vertices.
+fn mark_weighing(t: &[u32], n: usize, weight: u32) -> [bool; 256]
+    requires { ⌜ Formed limit (now t) ⌝ }
+    requires { ⌜ n ≡ vertexCount (now t) ⌝ }
+    ensures { λ r. ⌜ ((k : ℕ) → k < n → isMarked r k ≡ weighsAt weight (now (t .entry)) k) ⌝ }
+{
+    let mut marks = [false; 256];
+    let mut k = 0;
+    while k < n {
+        marks[k] = layout::vertex_weight(t, k) == weight;
+        k += 1;
+    }
+    marks
+}
+
+fn list_weighing(t: &[u32], weight: u32, out: &mut [u32]) -> Answer
+    requires { ⌜ Formed limit (now t) ⌝ }
+    ensures { λ r. ⌜ result r (now (out .exit)) ≡ vertexIndexResult weight (now (out .entry)) (read limit (now (t .entry))) ⌝ }
+{
+    let n = layout::vertex_count(t);
+    let marks = mark_weighing(t, n, weight);
+    marks::list_marked(t, &marks, out)
+}
+
+// The vertices of a weight.
+pub fn get_vertex_index(t: &[u32], weight: u32, out: &mut [u32]) -> Answer
+    ensures { λ r. ⌜ result r (now (out .exit)) ≡ onFormed (now (t .entry)) (now (out .entry)) (vertexIndexResult weight (now (out .entry))) ⌝ }
+{
+    if !formed::well_formed(t) {
+        return Answer::NotWellFormed;
+    }
+    list_weighing(t, weight, out)
+}
+
+fn has_weight(t: &[u32], weight: u32) -> bool
+    requires { ⌜ Formed limit (now t) ⌝ }
+    ensures { λ r. ⌜ r ≡ hasVertexWeighing weight (read limit (now (t .entry))) ⌝ }
+{
+    let n = layout::vertex_count(t);
+    let mut k = 0;
+    while k < n {
+        if layout::vertex_weight(t, k) == weight {
+            return true;
+        }
+        k += 1;
+    }
+    false
+}
+
+fn contains_formed(t: &[u32], weight: u32) -> Answer
+    requires { ⌜ Formed limit (now t) ⌝ }
+    ensures { λ r. ⌜ result r [] ≡ containsResult weight (read limit (now (t .entry))) ⌝ }
+{
+    if has_weight(t, weight) {
+        return Answer::Done(1);
+    }
+    Answer::Done(0)
+}
+
+// Whether a vertex has the weight.
+pub fn contains_vertex(t: &[u32], weight: u32) -> Answer
+    ensures { λ r. ⌜ result r [] ≡ onFormed (now (t .entry)) [] (containsResult weight) ⌝ }
+{
+    if !formed::well_formed(t) {
+        return Answer::NotWellFormed;
+    }
+    contains_formed(t, weight)
 }

@@ -43,7 +43,7 @@ loop-less : tie.Need-loop-less Inv-loop μ-loop
 loop-less c = search needs
 
 loop-again : tie.Need-loop-again Inv-loop μ-loop
-loop-again c = 
+loop-again c =
     let l = c .before .before .before in let s = l .before .before .before in let h = c .before .before .loop-test .taken in
     let e = c .before .end-at .ensures in let p = stepAt (now (s .args .ms)) (l .loop .i) in (
       omega arith,
