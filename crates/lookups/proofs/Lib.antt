@@ -3,3 +3,4 @@ pub mod Found
 pub mod Marking
 pub mod Laid
 pub mod Weights
+pub mod Sheet
