@@ -1,0 +1,6 @@
+pub mod Places
+pub mod Found
+pub mod Marking
+pub mod Laid
+pub mod Weights
+pub mod Sheet

@@ -1,0 +1,138 @@
+-- Laws of the steps of a list, of the places that pass a test, and of sums. Assumes nothing.
+use mathlib.Core.Path.{_≡_, refl, sym, ap, _∙_}
+use mathlib.Core.Bool.{Bool, true, false}
+use mathlib.Core.List.{List, [], _∷_}
+use Prim.Native.Nat.{ℕ, zero, suc, _+_, _*_, _≤_, _<_}
+use native.Mathlib.Nat.{not-suc-le-zero, le-of-suc-le-suc}
+use native.Mathlib.Numerals.{add-one}
+use native.Mathlib.Omega.{arith}
+use lib.Dec.{eqb}
+use lib.ListN.{length, getD, drop, drop-of-length-le}
+use lib.Seq.{drop-cons}
+use borrow.Author.Tests.{eq-eqb, ne-eqb}
+use Rattle.lists.specs.Tests.{bit}
+use Rattle.lists.specs.Lists.{filter, tab}
+use Rattle.lists.proofs.Cases.{on}
+use Rattle.lists.proofs.Tab.{drop-tab, length-tab}
+use Rattle.layout.specs.Steps.{Step, stepsOf}
+use Rattle.layout.specs.Layout.{hyperedgeCount, hyperedgeAt, membersAt, readHyperedges}
+use Rattle.layout.specs.WellFormed.{Formed}
+use Rattle.layout.proofs.Read.{members-le}
+use Rattle.lookups.specs.Lookups.{end, stepAt, hasEnd, places, placesIn, sum}
+
+-- ---- a loop over i along the steps of ms
+
+module _ (ms : List ℕ) (i : ℕ) where
+  pub steps-more : i + 1 < length ms → stepsOf (drop i ms) ≡ stepAt ms i ∷ stepsOf (drop (i + 1) ms)
+  unfolding stepsOf
+  steps-more h = rw (drop-cons ms i 0 (omega arith), ← add-one i, drop-cons ms (i + 1) 0 h)
+
+pub steps-end : (ms : List ℕ) (i : ℕ) → length ms ≤ i + 1 → stepsOf (drop i ms) ≡ []
+unfolding stepsOf
+steps-end [] zero h = refl
+steps-end [] (suc i) h = refl
+steps-end (x ∷ []) zero h = refl
+steps-end (x ∷ y ∷ ms) zero h = absurd (not-suc-le-zero (le-of-suc-le-suc (rw (add-one 0) at h)))
+steps-end (x ∷ ms) (suc i) h = steps-end ms i (omega arith)
+
+-- an end of the step at place i: the code tested which
+module _ (arriving : Bool) (ms : List ℕ) (i : ℕ) where
+  pub end-to : arriving ≡ true → getD ms (i + 1) 0 ≡ end arriving (stepAt ms i)
+  end-to e = rw e
+
+  pub end-from : arriving ≡ false → getD ms i 0 ≡ end arriving (stepAt ms i)
+  end-from e = rw e
+
+-- x is what `end_at` found, and the code compared it with v
+module _ (arriving : Bool) (v : ℕ) (s : Step) (x : ℕ) (e : x ≡ end arriving s) where
+  pub end-here : x ≡ v → hasEnd arriving v s ≡ true
+  unfolding hasEnd
+  end-here h = eq-eqb _ _ (sym e ∙ h)
+
+  pub end-other : (x ≡ v → ⊥) → hasEnd arriving v s ≡ false
+  unfolding hasEnd
+  end-other h = ne-eqb _ _ (λ q. h (e ∙ q))
+
+-- ---- places
+
+steps-le : (ms : List ℕ) → length (stepsOf ms) ≤ length ms
+unfolding stepsOf
+steps-le [] = omega arith
+steps-le (x ∷ []) = omega arith
+steps-le (x ∷ y ∷ ms) = omega (arith, steps-le (y ∷ ms))
+
+filter-le : {A : Type 0} (p : A → Bool) (xs : List A) → length (filter p xs) ≤ length xs
+unfolding filter
+filter-le p [] = omega arith
+filter-le p (x ∷ xs) = on (p x) (λ e. rw e (omega (arith, filter-le p xs))) (λ e. rw e (omega (arith, filter-le p xs)))
+
+module _ (p : Step → Bool) (ms : List ℕ) where
+  pub places-le : places p ms ≤ length ms
+  unfolding places
+  places-le = omega (arith, filter-le p (stepsOf ms), steps-le ms)
+
+-- a loop over i that counts the places: n so far, and those of `drop i ms` are left
+pub record Counted (p : Step → Bool) (ms : List ℕ) (i n : ℕ) : Type 0 where
+  pub within : n ≤ i
+  pub left : n + places p (drop i ms) ≡ places p ms
+
+pub counted-none : (p : Step → Bool) (ms : List ℕ) → Counted p ms 0 0
+counted-none p ms = record { within = omega arith; left = omega arith }
+
+module _ {p : Step → Bool} {ms : List ℕ} {i n : ℕ} (c : Counted p ms i n) where
+  here : (b : Bool) → i + 1 < length ms → p (stepAt ms i) ≡ b → places p (drop i ms) ≡ bit b + places p (drop (i + 1) ms)
+  unfolding places filter
+  here true h e = rw (steps-more ms i h, e) (omega arith)
+  here false h e = rw (steps-more ms i h, e) (omega arith)
+
+  pub counted-yes : {more : ℕ} → i + 1 < length ms → p (stepAt ms i) ≡ true → more ≡ n + 1 → Counted p ms (i + 1) more
+  counted-yes h e q = record { within = omega (arith, c .within); left = omega (arith, c .left, here true h e) }
+
+  pub counted-no : {more : ℕ} → i + 1 < length ms → p (stepAt ms i) ≡ false → more ≡ n → Counted p ms (i + 1) more
+  counted-no h e q = record { within = omega (arith, c .within); left = omega (arith, c .left, here false h e) }
+
+  pub counted-end : length ms ≤ i + 1 → n ≡ places p ms
+  unfolding places filter
+  counted-end h = omega (arith, c .left, ap (λ (ss : List Step). length (filter p ss)) (steps-end ms i h))
+
+-- a loop over j along m records has none left
+records-end : {A : Type 0} (g : ℕ → A) (m j : ℕ) → m ≤ j → drop j (tab g m) ≡ []
+records-end g m j h = drop-of-length-le (tab g m) {i = j} (rw length-tab h)
+
+-- m is what `hyperedge_count` found
+module _ (L : ℕ) (ws : List ℕ) {m j : ℕ} (e : m ≡ hyperedgeCount ws) where
+  pub records-more : j < m → drop j (readHyperedges L ws) ≡ hyperedgeAt L ws j ∷ drop (j + 1) (readHyperedges L ws)
+  records-more h = drop-tab (hyperedgeAt L ws) (hyperedgeCount ws) j (omega arith)
+
+  pub records-none : m ≤ j → drop j (readHyperedges L ws) ≡ []
+  records-none h = records-end (hyperedgeAt L ws) (hyperedgeCount ws) j (omega arith)
+
+-- ---- sums: a loop over j that adds up the m records of g, each at most `most`
+
+pub record Summed {A : Type 0} (f : A → ℕ) (g : ℕ → A) (m most j n : ℕ) : Type 0 where
+  pub within : n ≤ j * most
+  pub left : n + sum f (drop j (tab g m)) ≡ sum f (tab g m)
+
+pub summed-none : {A : Type 0} (f : A → ℕ) (g : ℕ → A) (m most : ℕ) → Summed f g m most 0 0
+summed-none f g m most = record { within = omega arith; left = omega arith }
+
+module _ {A : Type 0} {f : A → ℕ} {g : ℕ → A} {m most j n : ℕ} (s : Summed f g m most j n) where
+  pub summed-more : {x more : ℕ} → j < m → x ≡ f (g j) → x ≤ most → more ≡ n + x → Summed f g m most (j + 1) more
+  unfolding sum
+  summed-more h e l q = record {
+    within = omega (arith, s .within);
+    left = omega (arith, s .left, ap (sum f) (drop-tab g m j h));
+  }
+
+  pub summed-end : m ≤ j → n ≡ sum f (tab g m)
+  unfolding sum
+  summed-end h = omega (arith, s .left, ap (sum f) (records-end g m j h))
+
+-- x is what a count of the places of record j's members found
+module _ (L : ℕ) (ws ms : List ℕ) (j : ℕ) (e : ms ≡ membersAt L ws j) (p : Step → Bool) (x : ℕ) (q : x ≡ places p ms) where
+  pub places-in : x ≡ placesIn p (hyperedgeAt L ws j)
+  unfolding placesIn
+  places-in = q ∙ ap (places p) e
+
+  pub places-most : Formed L ws → j < hyperedgeCount ws → x ≤ L
+  places-most f h = omega (arith, places-le p (membersAt L ws j), members-le L ws f j h, ap (places p) e)

@@ -1,0 +1,127 @@
+-- What each lookup counts or lists, over a table's content. Assumes nothing.
+use mathlib.Core.Path.{_≡_}
+use mathlib.Core.Bool.{Bool, true, false, not, cond, _||_}
+use mathlib.Core.List.{List, [], _∷_, map}
+use Prim.Native.Nat.{ℕ, _+_, _<_}
+use lib.Dec.{eqb}
+use lib.ListN.{length, getD, replicate}
+use Rattle.lists.specs.Tests.{_and_}
+use Rattle.lists.specs.Lists.{any, memb, filter, flat}
+use Rattle.layout.specs.Content.{Vertex, Hyperedge, Table, liveVertices, hyperedgeNumber, vertexNumber, lists}
+use Rattle.layout.specs.Layout.{vertexLimit, vertexAt}
+use Rattle.layout.specs.Steps.{Step, stepsOf, isStep, makesStep}
+use Rattle.marks.specs.Marks.{isMarked}
+use Rattle.lookups.specs.declared.Relation.{Relation}
+use Rattle.lookups.specs.declared.Relation.the-variants.{From, To, Around}
+use Rattle.lookups.specs.declared.Listing.{Listing}
+use Rattle.lookups.specs.declared.Listing.the-variants.{Connecting, Weighing, Holding}
+
+-- ---- vertices that a hyperedge relates to v
+
+-- read forward, or turned
+abbrev pub turned : {A : Type 0} → Bool → (ℕ → ℕ → A) → ℕ → ℕ → A
+turned false f v y = f v y
+turned true f v y = f y v
+
+-- a co-member other than the vertex
+unfoldable pub coMember : ℕ → ℕ → Hyperedge → Bool
+coMember v y e = lists v e and lists y e and not (eqb y v)
+
+-- y stands right after v, right before v, or with v in the list
+unfoldable pub relates : Relation → ℕ → ℕ → Hyperedge → Bool
+relates From v y e = makesStep v y e
+relates To v y e = makesStep y v e
+relates Around v y e = coMember v y e
+
+unfoldable pub isRelated : Relation → Table → ℕ → ℕ → Bool
+isRelated rel t v y = any (relates rel v y) (t .hyperedges)
+
+-- distinct, ascending
+unfoldable pub related : Relation → ℕ → Table → List ℕ
+related rel v t = filter (isRelated rel t v) (liveVertices t)
+
+-- ---- marks
+
+-- y passes with some element of the list, or with x
+unfoldable pub someOf : {A : Type 0} → (ℕ → A → Bool) → List A → ℕ → Bool
+someOf r xs y = any (r y) xs
+
+abbrev pub with : {A : Type 0} → (ℕ → A → Bool) → A → ℕ → Bool
+with r x y = r y x
+
+-- member m is y, and is not v
+unfoldable pub isOther : ℕ → ℕ → ℕ → Bool
+isOther v y m = eqb y m and not (eqb m v)
+
+-- no vertex is marked
+unfoldable pub noMarks : List Bool
+noMarks = replicate vertexLimit false
+
+-- what was marked still is, and besides every live vertex that passes the test
+pub record MarkedBy (live : List ℕ) (p : ℕ → Bool) (old new : List Bool) : Type 0 where
+  pub sized : length new ≡ length old
+  pub each : (k : ℕ) → k < length live → isMarked new k ≡ (isMarked old k || p (getD live k 0))
+
+-- ---- places
+
+abbrev pub end : Bool → Step → ℕ
+end false s = s .from
+end true s = s .to
+
+-- v is where the step starts, or where it ends
+unfoldable pub hasEnd : Bool → ℕ → Step → Bool
+hasEnd arriving v s = eqb (end arriving s) v
+
+-- the step at place i of a list
+abbrev pub stepAt : List ℕ → ℕ → Step
+stepAt ms i = record { from = getD ms i 0; to = getD ms (i + 1) 0 }
+
+-- the places of a list at which the step passes the test
+unfoldable pub places : (Step → Bool) → List ℕ → ℕ
+places p ms = length (filter p (stepsOf ms))
+
+unfoldable pub placesIn : (Step → Bool) → Hyperedge → ℕ
+placesIn p e = places p (e .members)
+
+unfoldable pub sum : {A : Type 0} → (A → ℕ) → List A → ℕ
+sum f [] = 0
+sum f (x ∷ xs) = f x + sum f xs
+
+-- degrees count every place
+unfoldable pub degree : Bool → ℕ → Table → ℕ
+degree arriving v t = sum (placesIn (hasEnd arriving v)) (t .hyperedges)
+
+-- ---- listings of hyperedges
+
+-- a list that holds v, as length and members
+unfoldable pub held : ℕ → List ℕ → List ℕ
+held v ms = cond (memb v ms) (length ms ∷ ms) []
+
+-- what a listing has of a hyperedge: its number once for each place of the step x to y; its number, if it weighs w;
+-- its list, if that holds v
+unfoldable pub block : Listing → Hyperedge → List ℕ
+block (Connecting x y) e = replicate (placesIn (isStep x y) e) (e .number)
+block (Weighing w) e = cond (eqb (e .weight) w) (e .number ∷ []) []
+block (Holding v) e = held v (e .members)
+
+unfoldable pub blockLength : Listing → Hyperedge → ℕ
+blockLength q e = length (block q e)
+
+unfoldable pub listing : Listing → Table → List ℕ
+listing q t = flat (block q) (t .hyperedges)
+
+-- ---- vertices of a weight
+
+unfoldable pub weighs : ℕ → Vertex → Bool
+weighs w x = eqb (x .weight) w
+
+-- ascending
+unfoldable pub verticesWeighing : ℕ → Table → List ℕ
+verticesWeighing w t = map vertexNumber (filter (weighs w) (t .vertices))
+
+unfoldable pub hasVertexWeighing : ℕ → Table → Bool
+hasVertexWeighing w t = any (weighs w) (t .vertices)
+
+-- the mark of each record of a weight
+unfoldable pub weighsAt : ℕ → List ℕ → ℕ → Bool
+weighsAt w ws k = weighs w (vertexAt ws k)

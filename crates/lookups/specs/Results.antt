@@ -1,0 +1,44 @@
+-- What each lookup answers and leaves, in the order of its refusals; 1 comes before all by `onFormed`. Assumes nothing.
+use mathlib.Core.Bool.{Bool, true, false}
+use mathlib.Core.List.{List, [], _∷_}
+use Prim.Native.Nat.{ℕ}
+use Rattle.lists.specs.Tests.{bit}
+use Rattle.layout.specs.declared.Answer.the-variants.{Done}
+use Rattle.layout.specs.Content.{Table}
+use Rattle.layout.specs.Answers.{Result, result, onLiveVertex, listed}
+use Rattle.lookups.specs.declared.Relation.{Relation}
+use Rattle.lookups.specs.declared.Listing.{Listing}
+use Rattle.lookups.specs.declared.Listing.the-variants.{Connecting, Weighing, Holding}
+use Rattle.lookups.specs.Lookups.{related, degree, listing, verticesWeighing, hasVertexWeighing}
+
+-- get_adjacent_vertices_from and _to, get_vertex_neighborhood: 1, 3, 11
+unfoldable pub relatedResult : Relation → ℕ → List ℕ → Table → Result
+relatedResult rel v out t = onLiveVertex t v out (listed (related rel v t) out)
+
+-- get_vertex_degree_in and _out: 1, 3
+unfoldable pub degreeResult : Bool → ℕ → Table → Result
+degreeResult arriving v t = onLiveVertex t v [] (result (Done (degree arriving v t)) [])
+
+-- 3, 11
+unfoldable pub listingResult : ℕ → Listing → List ℕ → Table → Result
+listingResult v q out t = onLiveVertex t v out (listed (listing q t) out)
+
+-- get_hyperedges_connecting: 1, 3 for the first vertex, 11
+abbrev pub connectingResult : ℕ → ℕ → List ℕ → Table → Result
+connectingResult x y out t = listingResult x (Connecting x y) out t
+
+-- get_full_vertex_hyperedges: 1, 3, 11
+abbrev pub fullHyperedgesResult : ℕ → List ℕ → Table → Result
+fullHyperedgesResult v out t = listingResult v (Holding v) out t
+
+-- find_hyperedges_by_weight: 1, 11
+abbrev pub weighingResult : ℕ → List ℕ → Table → Result
+weighingResult w out t = listed (listing (Weighing w) t) out
+
+-- contains_vertex: 1; then yes or no
+abbrev pub containsResult : ℕ → Table → Result
+containsResult w t = result (Done (bit (hasVertexWeighing w t))) []
+
+-- get_vertex_index: 1, 11
+abbrev pub vertexIndexResult : ℕ → List ℕ → Table → Result
+vertexIndexResult w out t = listed (verticesWeighing w t) out
