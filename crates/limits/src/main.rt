@@ -56,8 +56,14 @@ fn lists() {
     let unknown = [3u32, 256, 257];
     add_vertices(&mut t);
     say(b"33 members", add_hyperedge(&mut t, &longer, 5));
-    say(b"no members, weight 9", add_hyperedge(&mut t, &longer[..0], 9));
-    say(b"members 256 and 257 unknown", add_hyperedge(&mut t, &unknown, 5));
+    say(
+        b"no members, weight 9",
+        add_hyperedge(&mut t, &longer[..0], 9),
+    );
+    say(
+        b"members 256 and 257 unknown",
+        add_hyperedge(&mut t, &unknown, 5),
+    );
     say(b"32 members", add_hyperedge(&mut t, &longest, 5));
     say(b"the same again", add_hyperedge(&mut t, &longest, 5));
 }
@@ -69,8 +75,14 @@ fn hyperedges() {
     add_vertices(&mut t);
     add_hyperedges(&mut t);
     say(b"hyperedge 193", add_hyperedge(&mut t, &further, 5));
-    say(b"one that is there, table full", add_hyperedge(&mut t, &last, 5));
-    say(b"the same list, another weight", add_hyperedge(&mut t, &last, 6));
+    say(
+        b"one that is there, table full",
+        add_hyperedge(&mut t, &last, 5),
+    );
+    say(
+        b"the same list, another weight",
+        add_hyperedge(&mut t, &last, 6),
+    );
 }
 
 fn updates() {
@@ -79,11 +91,23 @@ fn updates() {
     let further = [1u32, 2];
     add_vertices(&mut t);
     add_hyperedges(&mut t);
-    say(b"update, unknown, no members", update(&mut t, HyperedgeIndex(192), &first[..0]));
-    say(b"update, unknown", update(&mut t, HyperedgeIndex(192), &further));
-    say(b"update to the list that it has", update(&mut t, HyperedgeIndex(0), &first));
+    say(
+        b"update, unknown, no members",
+        update(&mut t, HyperedgeIndex(192), &first[..0]),
+    );
+    say(
+        b"update, unknown",
+        update(&mut t, HyperedgeIndex(192), &further),
+    );
+    say(
+        b"update to the list that it has",
+        update(&mut t, HyperedgeIndex(0), &first),
+    );
     say(b"update", update(&mut t, HyperedgeIndex(0), &further));
-    say(b"update to the same again", update(&mut t, HyperedgeIndex(0), &further));
+    say(
+        b"update to the same again",
+        update(&mut t, HyperedgeIndex(0), &further),
+    );
 }
 
 fn removals() {
@@ -92,8 +116,14 @@ fn removals() {
     add_vertices(&mut t);
     say(b"list 3, 3", add_hyperedge(&mut t, &alone, 5));
     say(b"remove vertex 3", remove_vertex(&mut t, VertexIndex(3)));
-    say(b"remove vertex 3 again", remove_vertex(&mut t, VertexIndex(3)));
-    say(b"remove the list that held it alone", remove_hyperedge(&mut t, HyperedgeIndex(0)));
+    say(
+        b"remove vertex 3 again",
+        remove_vertex(&mut t, VertexIndex(3)),
+    );
+    say(
+        b"remove the list that held it alone",
+        remove_hyperedge(&mut t, HyperedgeIndex(0)),
+    );
     say(b"vertex after a removal", add_vertex(&mut t, 7));
 }
 

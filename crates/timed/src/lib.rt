@@ -24,7 +24,11 @@ pub extern "C" fn timed_add_hyperedge(t: &mut [u32], members: &[u32], weight: u3
 }
 
 #[no_mangle]
-pub extern "C" fn timed_update_hyperedge_vertices(t: &mut [u32], e: HyperedgeIndex, members: &[u32]) -> Reply {
+pub extern "C" fn timed_update_hyperedge_vertices(
+    t: &mut [u32],
+    e: HyperedgeIndex,
+    members: &[u32],
+) -> Reply {
     layout::reply_of(edits::update_hyperedge_vertices::update_hyperedge_vertices(t, e, members))
 }
 
