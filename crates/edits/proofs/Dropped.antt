@@ -1,7 +1,7 @@
--- A record that a search found is taken out of a well-formed table. Assumes nothing.
+-- A record that a search found is taken out of a well-formed table: the words that are left are those of the table without it. Assumes nothing.
 use mathlib.Core.Path.{_≡_, refl, sym, ap, ap₂, _∙_}
 use mathlib.Core.List.{List, _++_, map}
-use Prim.Native.Nat.{ℕ, suc, _+_, _*_, _-_, _≤_, _<_}
+use Prim.Native.Nat.{ℕ, suc, _*_, _-_, _<_}
 use native.Mathlib.Omega.{arith}
 use lib.ListN.{length, getD, set, take, drop, List·getD-map}
 use Rattle.lists.specs.Lists.{filter, otherThan, Ascending, shifted}
@@ -12,8 +12,8 @@ use Rattle.lists.proofs.Filter.{filter-but}
 use Rattle.lists.proofs.Flat.{Uniform, length-pad}
 use Rattle.layout.specs.declared.Found.{Found}
 use Rattle.layout.specs.declared.Found.the-variants.{At, Nothing}
-use Rattle.layout.specs.declared.Answer.the-variants.{Done, HyperedgeNotLive}
-use Rattle.layout.specs.Content.{Hyperedge, vertexNumber, hyperedgeNumber, liveVertices, liveHyperedges, position}
+use Rattle.layout.specs.declared.Answer.the-variants.{Done}
+use Rattle.layout.specs.Content.{vertexNumber, hyperedgeNumber, liveVertices, liveHyperedges, position}
 use Rattle.layout.specs.Layout.{limit, vertexLimit, vertexSize, recordSize, verticesAt, hyperedgesAt, vertexCount, hyperedgeCount, vertexAt, hyperedgeAt, readVertices, readHyperedges, read, hyperedgeWords, words}
 use Rattle.layout.specs.WellFormed.{Formed}
 use Rattle.layout.specs.Answers.{result, vertexMissing, hyperedgeMissing}
@@ -28,7 +28,7 @@ use Rattle.edits.specs.Results.{removeVertexResult, removeHyperedgeResul
 use Rattle.edits.proofs.Laid.{hyperedge-out, vertex-out}
 
 -- of ascending keys only the one found is k
-pub found-out : {A : Type 0} (f : A → ℕ) (xs : List A) (d : A) → f d ≡ 0 → Ascending (map f xs) → (k j : ℕ) → position k (map f xs) ≡ At j
+found-out : {A : Type 0} (f : A → ℕ) (xs : List A) (d : A) → f d ≡ 0 → Ascending (map f xs) → (k j : ℕ) → position k (map f xs) ≡ At j
     → filter (otherThan f k) xs ≡ take j xs ++ drop (suc j) xs
 found-out f xs d z asc k j e =
     let p = position-found k (map f xs) j e in
@@ -41,7 +41,7 @@ found-out f xs d z asc k j e =
 
 module _ (L : ℕ) (ws : List ℕ) (f : Formed L ws) where
   -- every hyperedge record has the same number of words
-  pub hyperedges-uniform : Uniform (hyperedgeWords L) (recordSize L) (readHyperedges L ws) noHyperedge
+  hyperedges-uniform : Uniform (hyperedgeWords L) (recordSize L) (readHyperedges L ws) noHyperedge
   hyperedges-uniform j h =
       let l : j < hyperedgeCount ws = rw length-tab at h in
       rw (getD-tab (hyperedgeAt L ws) (hyperedgeCount ws) j noHyperedge l)

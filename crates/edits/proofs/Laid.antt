@@ -4,7 +4,7 @@ use mathlib.Core.List.{List, [], _∷_, _++_, append-assoc}
 use Prim.Native.Nat.{ℕ, suc, _+_, _*_, _-_, _≤_, _<_}
 use native.Mathlib.Nat.{mul-le-mul-right}
 use native.Mathlib.Omega.{arith}
-use lib.ListN.{length, getD, set, take, drop, replicate, length-append, length-drop, length-replicate, replicate-append-replicate}
+use lib.ListN.{length, getD, set, take, drop, replicate, length-append, length-drop, replicate-append-replicate}
 use lib.Seq.{split-at, length-take-le, getD-take, take-at, drop-at, drop-drop}
 use Rattle.lists.specs.Lists.{flat, pad, shifted}
 use Rattle.lists.proofs.Flat.{Uniform, flat-length, length-pad}

@@ -1,5 +1,5 @@
 -- The loop that keeps the words other than v, in place. Assumes nothing.
-use mathlib.Core.Path.{_≡_, refl, sym, ap, ap₂, _∙_}
+use mathlib.Core.Path.{_≡_, refl, sym, ap, _∙_}
 use mathlib.Core.List.{List, [], _∷_}
 use Prim.Native.Nat.{ℕ, suc, _+_, _-_, _≤_, _<_}
 use native.Mathlib.Numerals.{add-one}
@@ -9,15 +9,14 @@ use lib.Seq.{drop-cons, paste}
 use borrow.Author.Tests.{eq-eqb, ne-eqb}
 use Rattle.lists.specs.Lists.{filter, otherThan}
 use Rattle.lists.proofs.Parts.{part-at}
-use Rattle.edits.specs.Edits.{itself}
 use Rattle.edits.specs.Removing.{others}
 use Rattle.edits.proofs.Copied.{Copied, copied-none, copied-more, copied-read}
 
-pub others-yes : (v x : ℕ) (xs : List ℕ) → (x ≡ v → ⊥) → others v (x ∷ xs) ≡ x ∷ others v xs
+others-yes : (v x : ℕ) (xs : List ℕ) → (x ≡ v → ⊥) → others v (x ∷ xs) ≡ x ∷ others v xs
 unfolding others filter otherThan
 others-yes v x xs ne = rw (ne-eqb x v ne)
 
-pub others-no : (v x : ℕ) (xs : List ℕ) → x ≡ v → others v (x ∷ xs) ≡ others v xs
+others-no : (v x : ℕ) (xs : List ℕ) → x ≡ v → others v (x ∷ xs) ≡ others v xs
 unfolding others filter otherThan
 others-no v x xs e = rw (eq-eqb x v e)
 

@@ -8,7 +8,7 @@ use native.Mathlib.Numerals.{add-one, add-two}
 use native.Mathlib.Omega.{arith}
 use lib.Dec.{ltb}
 use borrow.Author.Tests.{lt-ltb, le-ltb}
-use lib.ListN.{length, getD, set, take, drop, replicate, length-append, length-take, length-drop, length-replicate, drop-of-length-le}
+use lib.ListN.{length, getD, set, take, drop, replicate, length-append, length-replicate, drop-of-length-le}
 use lib.Seq.{paste, sets-eq, take-paste, drop-paste, length-paste, take-all, take-take, take-append-le, take-at, drop-at, drop-drop, getD-drop, length-take-le}
 use Rattle.lists.specs.Tests.{bit}
 use Rattle.lists.specs.Lists.{filter, otherThan, tab, flat, pad}
@@ -17,7 +17,7 @@ use Rattle.lists.proofs.Tab.{tab-suc, length-tab}
 use Rattle.lists.proofs.Maps.{map-snoc}
 use Rattle.lists.proofs.Filter.{filter-snoc}
 use Rattle.lists.proofs.Flat.{flat-snoc, length-pad}
-use Rattle.layout.specs.Content.{Hyperedge, Table}
+use Rattle.layout.specs.Content.{Hyperedge}
 use Rattle.layout.specs.Layout.{limit, hyperedgeLimit, recordSize, hyperedgesAt, size, hyperedgeWord, hyperedgeCount, countAt, membersAt, hyperedgeAt, hyperedgeWords, read, words}
 use Rattle.layout.specs.WellFormed.{Formed}
 use Rattle.layout.proofs.Read.{members-le}

@@ -10,7 +10,7 @@ ghost use Rattle.lists.specs.Lists.{shifted};
 ghost use Rattle.layout.specs.Layout.{limit, vertexLimit, hyperedgeLimit, vertexSize, recordSize, verticesAt, hyperedgesAt, size, hyperedgeCount, hyperedgeWord, hyperedgeAt, hyperedgeWords, countAt, read, words};
 ghost use Rattle.layout.specs.WellFormed.{Formed};
 ghost use Rattle.layout.specs.Answers.{onFormed, result};
-ghost use Rattle.edits.specs.Edits.{without, hasMembers};
+ghost use Rattle.edits.specs.Edits.{without};
 ghost use Rattle.edits.specs.Removing.{others, Stripped, stripVertex};
 ghost use Rattle.edits.specs.Results.{removeVertexResult};
 use layout::Answer;
