@@ -1,6 +1,6 @@
 -- For each number, what is reached from it: the count, then the numbers, ascending. Assumes nothing.
 use mathlib.Core.Path.{_≡_, refl, sym, ap, _∙_, subst}
-use mathlib.Core.Bool.{Bool, true, false}
+use mathlib.Core.Bool.{Bool, true}
 use mathlib.Core.List.{List, [], _∷_, _++_, append-assoc, append-nil}
 use Prim.Native.Nat.{ℕ, suc, _+_, _-_, _≤_, _<_}
 use native.Mathlib.Nat.{sub-zero, le-antisymm}
@@ -13,17 +13,13 @@ use Rattle.graph.specs.Bfs.{bfs}
 use Rattle.graph.specs.Held.{Marks}
 use Rattle.lists.proofs.Cases.{on}
 use Rattle.lists.proofs.Chosen.{chosen-in, chosen-out, chosen-count, chosen-ext, over-none, over-more, over-part, over-length}
-use Rattle.lists.proofs.Count.{count-below, count-upto}
+use Rattle.lists.proofs.Count.{bit-one, count-below, count-upto}
 use Rattle.lists.specs.Lists.{memb, over}
-use Rattle.lists.specs.Tests.{count, bit, chosen}
+use Rattle.lists.specs.Tests.{count, chosen}
 use Rattle.components.specs.Rows.{marked, words, row, rowsFrom, rows, Listed, Put, Rowed}
 
 marked-memb : (n : ℕ) (m q : List ℕ) → Marks n m q → (v : ℕ) → v < n → marked m v ≡ memb v q
 marked-memb n m q h v l = ap (λ (k : ℕ). eqb k 1) (h v l) ∙ bit-one (memb v q)
-  where
-    bit-one : (b : Bool) → eqb (bit b) 1 ≡ b
-    bit-one true = refl
-    bit-one false = refl
 
 pub marked-row : (E : ℕ → ℕ → Bool) (n x : ℕ) (m : List ℕ) → Marks n m (bfs E n x) → words (chosen (marked m) n) ≡ row E n x
 marked-row E n x m h = ap words (chosen-ext (marked m) (λ v. memb v (bfs E n x)) n (marked-memb n m (bfs E n x) h))

@@ -7,17 +7,12 @@ use native.Mathlib.Omega.{arith}
 use lib.ListN.{length, getD, set, take, drop, replicate, length-append, length-drop, replicate-append-replicate}
 use lib.Seq.{split-at, length-take-le, getD-take, take-at, drop-at, drop-drop}
 use Rattle.lists.specs.Lists.{flat, pad, shifted}
-use Rattle.lists.proofs.Flat.{Uniform, flat-length, length-pad}
+use Rattle.lists.proofs.Flat.{flat-append, Uniform, flat-length, length-pad}
 use Rattle.layout.specs.Content.{Vertex, Hyperedge, Table}
 use Rattle.layout.specs.Layout.{vertexLimit, hyperedgeLimit, vertexSize, recordSize, verticesAt, hyperedgesAt, vertexWords, hyperedgeWords, words}
 use Rattle.layout.proofs.Back.{noVertex, noHyperedge}
 
 -- ---- one of the records laid one after the other is taken out
-
-flat-append : {A : Type 0} (f : A → List ℕ) (xs ys : List A) → flat f (xs ++ ys) ≡ flat f xs ++ flat f ys
-unfolding flat
-flat-append f [] ys = refl
-flat-append f (x ∷ xs) ys = ap (λ (r : List ℕ). f x ++ r) (flat-append f xs ys) ∙ sym (append-assoc (f x) (flat f xs) (flat f ys))
 
 -- the words x between a and b are taken out, and 0 follows
 taken-out : (a x b : List ℕ) (n i k : ℕ) → length a ≡ i → length x ≡ k → length (a ++ (x ++ b)) ≤ n → shifted (pad n (a ++ (x ++ b))) i k ≡ pad n (a ++ b)

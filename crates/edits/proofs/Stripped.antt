@@ -12,6 +12,7 @@ use lib.ListN.{length, getD, set, take, drop, replicate, length-append, length-r
 use lib.Seq.{paste, sets-eq, take-paste, drop-paste, length-paste, take-all, take-take, take-append-le, take-at, drop-at, drop-drop, getD-drop, length-take-le}
 use Rattle.lists.specs.Tests.{bit}
 use Rattle.lists.specs.Lists.{filter, otherThan, tab, flat, pad}
+use Rattle.lists.proofs.Kept.{filter-length}
 use Rattle.lists.proofs.Cases.{on}
 use Rattle.lists.proofs.Tab.{tab-suc, length-tab}
 use Rattle.lists.proofs.Maps.{map-snoc}
@@ -100,11 +101,6 @@ module _ (k c : ℕ) where
       pos zero ne = absurd (ne refl)
       pos (suc c) ne = omega arith
 
-filter-le : {A : Type 0} (p : A → Bool) (xs : List A) → length (filter p xs) ≤ length xs
-unfolding filter
-filter-le p [] = omega arith
-filter-le p (x ∷ xs) = on (p x) (λ e. rw e (omega (arith, filter-le p xs))) (λ e. rw e (omega (arith, filter-le p xs)))
-
 stripped-snoc : (v : ℕ) (es : List Hyperedge) (e : Hyperedge) → stripped v (es ++ (e ∷ [])) ≡ cond (hasMembers (without v e)) (stripped v es ++ (without v e ∷ [])) (stripped v es)
 unfolding stripped
 stripped-snoc v es e = ap (filter hasMembers) (map-snoc (without v) es e) ∙ filter-snoc hasMembers (map (without v) es) (without v e)
@@ -129,7 +125,7 @@ module _ (L v : ℕ) (ws : List ℕ) (j k : ℕ) (s : List ℕ) (f : Formed L ws
 
   left-length : length (hyperedgeWords L left) ≡ recordSize L
   unfolding left without
-  left-length = omega (arith, length-pad L (left .members) (omega (arith, filter-le (otherThan itself v) (membersAt L ws j), members-le L ws f j h)))
+  left-length = omega (arith, length-pad L (left .members) (omega (arith, filter-length (otherThan itself v) (membersAt L ws j), members-le L ws f j h)))
 
   inside : (i : ℕ) → i ≤ j → hyperedgeWord L i + recordSize L ≤ length s
   inside i l =

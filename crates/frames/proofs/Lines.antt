@@ -8,15 +8,10 @@ use native.Mathlib.Omega.{arith}
 use lib.ListN.{length, getD, take, take-append-drop}
 use lib.Seq.{take-suc, take-all}
 use Rattle.lists.specs.Lists.{flat}
-use Rattle.lists.proofs.Flat.{flat-snoc}
+use Rattle.lists.proofs.Flat.{flat-append, flat-snoc}
 use Rattle.frames.specs.Frames.{byteValues, numberBytes, shortBytes, headFrame, vertexFrame, hyperedgeFrame, byteSum, balance, check, sealed, digit, byteDigits, digits, numberDigits, lineEnd, line, vertexLine, hyperedgeLine, vertexOf, hyperedgeOf, headLength, vertexLength, memberLength, hyperedgeLength}
 use Rattle.frames.specs.Put.{pasted, Put}
 use Rattle.frames.proofs.Laws.{put-append, put-as}
-
-flat-append : {A : Type 0} (f : A → List ℕ) (xs ys : List A) → flat f (xs ++ ys) ≡ flat f xs ++ flat f ys
-unfolding flat
-flat-append f [] ys = refl
-flat-append f (x ∷ xs) ys = ap (λ (r : List ℕ). f x ++ r) (flat-append f xs ys) ∙ sym (append-assoc (f x) (flat f xs) (flat f ys))
 
 sum-append : (xs ys : List ℕ) → byteSum (xs ++ ys) ≡ byteSum xs + byteSum ys
 unfolding byteSum

@@ -19,6 +19,10 @@ pub bit-le : (b : Bool) → bit b ≤ 1
 bit-le true = omega arith
 bit-le false = omega arith
 
+pub bit-one : (b : Bool) → eqb (bit b) 1 ≡ b
+bit-one true = refl
+bit-one false = refl
+
 pub count-le : (p : ℕ → Bool) (n : ℕ) → count p n ≤ n
 count-le p zero = omega arith
 count-le p (suc n) = omega (arith, bit-le (p n), count-le p n)

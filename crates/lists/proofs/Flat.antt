@@ -13,10 +13,14 @@ use Rattle.lists.specs.Lists.{zeros, tab, flat, pad}
 use Rattle.lists.proofs.Tab.{tab-suc}
 use Rattle.lists.proofs.All.{all-at, all-of, zeros-are}
 
+pub flat-append : {A : Type 0} (f : A → List ℕ) (xs ys : List A) → flat f (xs ++ ys) ≡ flat f xs ++ flat f ys
+unfolding flat
+flat-append f [] ys = refl
+flat-append f (x ∷ xs) ys = ap (λ (r : List ℕ). f x ++ r) (flat-append f xs ys) ∙ sym (append-assoc (f x) (flat f xs) (flat f ys))
+
 pub flat-snoc : {A : Type 0} (f : A → List ℕ) (xs : List A) (x : A) → flat f (xs ++ (x ∷ [])) ≡ flat f xs ++ f x
 unfolding flat
-flat-snoc f [] x = append-nil (f x)
-flat-snoc f (y ∷ ys) x = ap (λ (r : List ℕ). f y ++ r) (flat-snoc f ys x) ∙ sym (append-assoc (f y) (flat f ys) (f x))
+flat-snoc f xs x = flat-append f xs (x ∷ []) ∙ ap (λ (r : List ℕ). flat f xs ++ r) (append-nil (f x))
 
 -- n records of k words, each the k words from its place on, are the n * k words from the first's place on
 pub flat-tab : {A : Type 0} (f : A → List ℕ) (g : ℕ → A) (k base : ℕ) (ws : List ℕ) (n : ℕ)

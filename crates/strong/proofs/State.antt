@@ -1,6 +1,6 @@
 -- What the code of the strong components holds. Assumes nothing.
 use mathlib.Core.Path.{_≡_, refl, sym, ap, _∙_, subst}
-use mathlib.Core.Bool.{Bool, true, false, _&&_, cond}
+use mathlib.Core.Bool.{Bool, _&&_, cond}
 use mathlib.Core.List.{List, [], _∷_, _++_, reverse}
 use Prim.Native.Nat.{ℕ, suc, _+_, _-_, _*_, _≤_, _<_}
 use native.Mathlib.Nat.{lt-irrefl, not-suc-le-zero}
@@ -17,6 +17,7 @@ use Rattle.depth.specs.Swept.{Finishes}
 use Rattle.graph.specs.Bfs.{bfs}
 use Rattle.graph.specs.Held.{Marks}
 use Rattle.graph.specs.Reach.{matrix}
+use Rattle.lists.proofs.Count.{bit-one}
 use Rattle.lists.proofs.Cases.{on, on-same}
 use Rattle.lists.proofs.Chosen.{chosen-ext, chosen-count, over-none}
 use Rattle.lists.proofs.Memb.{memb-getD, below-memb}
@@ -48,10 +49,6 @@ closure-more {E} {n} {x} {c} {c′} {m} b h w k = record {
       (λ e. subst (λ (i : ℕ). getD c′ (i * 256 + v) 0 ≡ bit (memb v (bfs E n i))) (sym e) (k .row v lv ∙ w v lv))
       (λ ne. let l : u < x = omega arith in k .above (u * 256 + v) (omega arith) ∙ h .is u v l lv);
 }
-
-bit-one : (b : Bool) → eqb (bit b) 1 ≡ b
-bit-one true = refl
-bit-one false = refl
 
 -- the test by the matrix is the test by walks
 pub by-shared : (E : ℕ → ℕ → Bool) (n : ℕ) (c : List ℕ) → Closure E n n c → (r v : ℕ) → r < n → v < n → by c r v ≡ shared E n r v
