@@ -20,7 +20,7 @@ use Rattle.layout.proofs.Words.{words-of}
 use Rattle.edits.specs.Edits.{addVertex}
 use Rattle.edits.specs.Results.{lastNumber, addVertexResult}
 use Rattle.edits.specs.Records.{putVertex}
-use Rattle.edits.proofs.Kept.{vertex-unused, hyperedge-kept, record-kept}
+use Rattle.edits.proofs.Unchanged.{vertex-unused, hyperedge-kept, record-kept}
 use Rattle.edits.proofs.Refusals.{on-full, on-room, on-spent, on-number}
 
 module _ (L : ℕ) (ws : List ℕ) (n x w : ℕ) (f : Formed L ws) (en : n ≡ vertexCount ws) (ex : x ≡ nextVertexIn ws) (hn : n < vertexLimit) where

@@ -1,6 +1,6 @@
 pub mod OverAt
 pub mod Stored
-pub mod Kept
+pub mod Unchanged
 pub mod AddVertex
 pub mod Put
 pub mod AddHyperedge

@@ -20,7 +20,7 @@ use Rattle.layout.specs.WellFormed.{recordShaped, unusedHyperedges, Shaped, For
 use Rattle.layout.proofs.Words.{words-of}
 use Rattle.edits.specs.Records.{overAt, putHyperedge}
 use Rattle.edits.proofs.OverAt.{length-over-at, over-at-before, over-at-in, over-at-after}
-use Rattle.edits.proofs.Kept.{hyperedge-unused, record-within, hyperedge-kept, record-kept, vertices-kept, vertices-rest-kept}
+use Rattle.edits.proofs.Unchanged.{hyperedge-unused, record-within, hyperedge-kept, record-kept, vertices-kept, vertices-rest-kept}
 
 -- ---- a record that has the words of e holds e
 

@@ -31,7 +31,7 @@ use Rattle.edits.specs.Records.{overAt, memberWords, putHyperedge, newHy
 use Rattle.edits.specs.Results.{membersOf, onChanged, updateResult}
 use Rattle.edits.specs.Stages.{JudgedBy, updateLiveResult, updateJudgedResult}
 use Rattle.edits.proofs.OverAt.{over-at-before, over-at-keep}
-use Rattle.edits.proofs.Kept.{record-within}
+use Rattle.edits.proofs.Unchanged.{record-within}
 use Rattle.edits.proofs.Refusals.{on-refused, on-fine}
 use Rattle.edits.proofs.Put.{put-words}
 
