@@ -32,3 +32,16 @@ walk-else-last = refl
 walk-first-greater : walk forked 0 1 18097393005032713128 ≡ 0 ∷ 1 ∷ []
 unfolding walk walkFrom move moveAlong hyperedgesOf filter cut firstState toOneOf others isFirstOther chosen firstGreater lastOf totalWeight sample xorshift ofInt div mul lt round units odd span climb size
 walk-first-greater = refl
+
+-- h0 [0, 1] and h1 [0, 2], both of weight 1
+abbrev even : Table
+even = record {
+  nextVertex = 3;
+  nextHyperedge = 2;
+  vertices = record { number = 0; weight = 0 } ∷ record { number = 1; weight = 0 } ∷ record { number = 2; weight = 0 } ∷ [];
+  hyperedges = record { number = 0; weight = 1; members = 0 ∷ 1 ∷ [] } ∷ record { number = 1; weight = 1; members = 0 ∷ 2 ∷ [] } ∷ [];
+}
+
+walk-of-three : walk even 0 3 1 ≡ 0 ∷ 1 ∷ 0 ∷ 2 ∷ []
+unfolding walk walkFrom move moveAlong hyperedgesOf filter cut firstState toOneOf others isFirstOther chosen firstGreater lastOf totalWeight sample xorshift ofInt div mul lt round units odd span climb size
+walk-of-three = refl

@@ -20,7 +20,7 @@ use Rattle.layout.specs.Content.{Hyperedge, lists, hyperedgesOf}
 use Rattle.layout.specs.Layout.{limit, vertexLimit, hyperedgeCount, hyperedgeAt, read}
 use Rattle.layout.specs.WellFormed.{Formed}
 use Rattle.walk.specs.Walk.{float, sample, totalWeight, firstGreater}
-use Rattle.walk.specs.Passes.{listsAt, listing, Ends, markedFrom, Greater}
+use Rattle.walk.specs.Passes.{largestWord, listsAt, listing, Ends, markedFrom, Greater}
 
 -- ---- a loop over a list that looks for v: found says whether v is among the first i
 
@@ -140,7 +140,7 @@ rest-none ws marks n j h = let s : n - j ≡ 0 = omega arith in rw s
 
 pub record Summed (ws : List ℕ) (marks : List Bool) (n total j : ℕ) : Type 0 where
   pub within : j ≤ n
-  pub small : total ≤ j * 4294967295
+  pub small : total ≤ j * largestWord
   pub ahead : total + totalWeight (markedFrom ws marks j (n - j)) ≡ totalWeight (markedFrom ws marks 0 n)
 
 pub summed-none : (ws : List ℕ) (marks : List Bool) (n : ℕ) → Summed ws marks n 0 0
@@ -148,7 +148,7 @@ summed-none ws marks n = record { within = omega arith; small = omega arith; ahe
 
 module _ (ws : List ℕ) (marks : List Bool) (n total j : ℕ) (inv : Summed ws marks n total j) where
   -- y is the weight of record j, and x counts it where it is marked
-  pub summed-more : (x y : ℕ) → j < n → y ≡ hyperedgeAt limit ws j .weight → x ≡ cond (getD marks j false) y 0 → x ≤ 4294967295 → Summed ws marks n (total + x) (j + 1)
+  pub summed-more : (x y : ℕ) → j < n → y ≡ hyperedgeAt limit ws j .weight → x ≡ cond (getD marks j false) y 0 → x ≤ largestWord → Summed ws marks n (total + x) (j + 1)
   unfolding totalWeight
   summed-more x y h ey ex l = record {
     within = omega arith;
@@ -169,7 +169,7 @@ module _ (ws : List ℕ) (marks : List Bool) (n total j : ℕ) (inv : Summed ws 
 
 pub record Left (ws : List ℕ) (marks : List Bool) (n : ℕ) (x : Float) (sum j : ℕ) : Type 0 where
   pub within : j ≤ n
-  pub small : sum ≤ j * 4294967295
+  pub small : sum ≤ j * largestWord
   pub ahead : firstGreater x (hyperedgeAt limit ws (n - 1)) sum (markedFrom ws marks j (n - j)) ≡ firstGreater x (hyperedgeAt limit ws (n - 1)) 0 (markedFrom ws marks 0 n)
 
 pub left-all : (ws : List ℕ) (marks : List Bool) (n : ℕ) (x : Float) → Left ws marks n x 0 0
@@ -198,7 +198,7 @@ module _ (ws : List ℕ) (marks : List Bool) (n : ℕ) (x : Float) (sum j : ℕ)
       pub left-take : not (getD marks j false) ≡ false → lt x f ≡ true → Greater ws (markedFrom ws marks 0 n) n x j
       left-take q g = record { within = h; taken = rw g at (turn q) }
 
-      pub left-on : not (getD marks j false) ≡ false → y ≤ 4294967295 → lt x f ≡ false → Left ws marks n x (sum + y) (j + 1)
+      pub left-on : not (getD marks j false) ≡ false → y ≤ largestWord → lt x f ≡ false → Left ws marks n x (sum + y) (j + 1)
       left-on q s g = record { within = omega arith; small = omega (arith, inv .small); ahead = rw g at (turn q) }
 
 -- es are the marked ones, and x is the draw's sample, made with the total that was found

@@ -10,6 +10,10 @@ use Rattle.layout.specs.Content.{Hyperedge, lists, hyperedgesOf}
 use Rattle.layout.specs.Layout.{limit, hyperedgeCount, membersAt, hyperedgeAt, read}
 use Rattle.walk.specs.Walk.{firstGreater}
 
+-- no weight is greater
+abbrev pub largestWord : ℕ
+largestWord = 4294967295
+
 -- record j lists v
 abbrev pub listsAt : List ℕ → ℕ → ℕ → Bool
 listsAt ws v j = memb v (membersAt limit ws j)

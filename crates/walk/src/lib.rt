@@ -7,8 +7,8 @@ ghost use Rattle.lists.specs.Lists.{memb, over};
 ghost use Rattle.layout.specs.Layout.{limit, hyperedgeCount, read};
 ghost use Rattle.layout.specs.WellFormed.{Formed};
 ghost use Rattle.layout.specs.Answers.{result, listed, onFormed};
-ghost use Rattle.walk.specs.Walk.{xorshift, float, sample, totalWeight, isFirstOther, others, toOneOf, move, walkFrom, cut, firstState, walk, walkResult};
-ghost use Rattle.walk.specs.Passes.{listsAt, markedFrom, listing, Ends, Greater};
+ghost use Rattle.walk.specs.Walk.{xorshift, float, sample, totalWeight, isFirstOther, others, toOneOf, move, walkFrom, stepLimit, cut, firstState, walk, walkResult};
+ghost use Rattle.walk.specs.Passes.{largestWord, listsAt, markedFrom, listing, Ends, Greater};
 use layout::Answer;
 use layout::Found;
 use layout::VertexIndex;
@@ -87,7 +87,7 @@ fn listing_end(t: &[u32], v: u32) -> usize
     0
 }
 
-// Marks those of the first n records that list v.
+// Marks those of the first n records that list v. There are fewer records than marks.
 fn mark_listing(t: &[u32], v: u32, n: usize) -> [bool; 256]
     requires { ⌜ Formed limit (now t) ⌝ }
     requires { ⌜ n ≤ hyperedgeCount (now t) ⌝ }
@@ -103,14 +103,14 @@ fn mark_listing(t: &[u32], v: u32, n: usize) -> [bool; 256]
 }
 
 fn wide(x: u32) -> u64
-    ensures { λ r. ⌜ (r ≡ x) × (r ≤ 4294967295) ⌝ }
+    ensures { λ r. ⌜ (r ≡ x) × (r ≤ largestWord) ⌝ }
 {
     x as u64
 }
 
 // The weight of a record that is marked, else 0.
 fn counting(marked: bool, weight: u32) -> u64
-    ensures { λ r. ⌜ (r ≡ cond marked weight 0) × (r ≤ 4294967295) ⌝ }
+    ensures { λ r. ⌜ (r ≡ cond marked weight 0) × (r ≤ largestWord) ⌝ }
 {
     if marked {
         return wide(weight);
@@ -266,7 +266,7 @@ fn write_walk(t: &[u32], w: Walker, n: usize, out: &mut [u32])
 }
 
 fn cut(steps: usize) -> usize
-    ensures { λ r. ⌜ (r ≡ cut steps) × (r ≤ 4096) ⌝ }
+    ensures { λ r. ⌜ (r ≡ cut steps) × (r ≤ stepLimit) ⌝ }
 {
     if steps <= STEP_LIMIT {
         return steps;
