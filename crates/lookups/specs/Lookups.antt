@@ -7,7 +7,7 @@ use lib.Dec.{eqb}
 use lib.ListN.{length, getD, replicate}
 use Rattle.lists.specs.Tests.{_and_}
 use Rattle.lists.specs.Lists.{any, memb, filter, flat}
-use Rattle.layout.specs.Content.{Vertex, Hyperedge, Table, liveVertices, hyperedgeNumber, vertexNumber, lists}
+use Rattle.layout.specs.Content.{Vertex, Hyperedge, Table, liveVertices, vertexNumber, lists}
 use Rattle.layout.specs.Layout.{vertexLimit, vertexAt}
 use Rattle.layout.specs.Steps.{Step, stepsOf, isStep, makesStep}
 use Rattle.marks.specs.Marks.{isMarked}

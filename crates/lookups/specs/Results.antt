@@ -1,6 +1,6 @@
 -- What each lookup answers and leaves, in the order of its refusals; 1 comes before all by `onFormed`. Assumes nothing.
-use mathlib.Core.Bool.{Bool, true, false}
-use mathlib.Core.List.{List, [], _∷_}
+use mathlib.Core.Bool.{Bool}
+use mathlib.Core.List.{List, []}
 use Prim.Native.Nat.{ℕ}
 use Rattle.lists.specs.Tests.{bit}
 use Rattle.layout.specs.declared.Answer.the-variants.{Done}
