@@ -1,7 +1,7 @@
 // Listings of hyperedges: a block of words for each record, one after the other.
 ghost use mathlib.Core.Path.{_≡_};
 ghost use mathlib.Core.List.{_∷_};
-ghost use Prim.Native.Nat.{ℕ, _+_, _<_, _≤_};
+ghost use Prim.Native.Nat.{_+_, _<_, _≤_};
 ghost use lib.ListN.{length, replicate};
 ghost use Rattle.lists.specs.Lists.{over};
 ghost use Rattle.layout.specs.Layout.{limit, hyperedgeCount, hyperedgeAt, membersAt, read};

@@ -1,12 +1,12 @@
 // Lookups: what a table's lists say of a vertex, of a pair of vertices, of a weight or of some hyperedges.
 ghost use mathlib.Core.Path.{_≡_};
-ghost use mathlib.Core.Bool.{Bool, true, false};
+ghost use mathlib.Core.Bool.{true, false};
 ghost use mathlib.Core.List.{[]};
-ghost use Prim.Native.Nat.{ℕ, _+_, _*_, _<_, _≤_};
-ghost use lib.ListN.{length, getD};
+ghost use Prim.Native.Nat.{ℕ, _+_, _<_};
+ghost use lib.ListN.{length};
 ghost use Rattle.lists.specs.Lists.{memb};
 ghost use Rattle.layout.specs.Content.{liveVertices};
-ghost use Rattle.layout.specs.Layout.{limit, vertexLimit, vertexCount, hyperedgeCount, hyperedgeAt, membersAt, read};
+ghost use Rattle.layout.specs.Layout.{limit, vertexLimit, vertexCount, hyperedgeCount, hyperedgeAt, read};
 ghost use Rattle.layout.specs.WellFormed.{Formed};
 ghost use Rattle.layout.specs.Steps.{stepsOf, isStep};
 ghost use Rattle.layout.specs.Answers.{result, onFormed, listed};
