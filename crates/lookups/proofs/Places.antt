@@ -11,7 +11,7 @@ use lib.Seq.{drop-cons}
 use borrow.Author.Tests.{eq-eqb, ne-eqb}
 use Rattle.lists.specs.Tests.{bit}
 use Rattle.lists.specs.Lists.{filter, tab}
-use Rattle.lists.proofs.Cases.{on}
+use Rattle.lists.proofs.Kept.{filter-length}
 use Rattle.lists.proofs.Tab.{drop-tab, length-tab}
 use Rattle.layout.specs.Steps.{Step, stepsOf}
 use Rattle.layout.specs.Layout.{hyperedgeCount, hyperedgeAt, membersAt, readHyperedges}
@@ -60,15 +60,10 @@ steps-le [] = omega arith
 steps-le (x ∷ []) = omega arith
 steps-le (x ∷ y ∷ ms) = omega (arith, steps-le (y ∷ ms))
 
-filter-le : {A : Type 0} (p : A → Bool) (xs : List A) → length (filter p xs) ≤ length xs
-unfolding filter
-filter-le p [] = omega arith
-filter-le p (x ∷ xs) = on (p x) (λ e. rw e (omega (arith, filter-le p xs))) (λ e. rw e (omega (arith, filter-le p xs)))
-
 module _ (p : Step → Bool) (ms : List ℕ) where
   pub places-le : places p ms ≤ length ms
   unfolding places
-  places-le = omega (arith, filter-le p (stepsOf ms), steps-le ms)
+  places-le = omega (arith, filter-length p (stepsOf ms), steps-le ms)
 
 -- a loop over i that counts the places: n so far, and those of `drop i ms` are left
 pub record Counted (p : Step → Bool) (ms : List ℕ) (i n : ℕ) : Type 0 where
