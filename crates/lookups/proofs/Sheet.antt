@@ -1,4 +1,4 @@
--- The paper's sheets: what the lookups give on the tables G and K and on the one list of P8. Assumes nothing.
+-- The paper's sheets: what the lookups give on the tables G and K and on the one list of P8; adjacency by steps. Assumes nothing.
 use mathlib.Core.Path.{_≡_, refl}
 use mathlib.Core.Bool.{true, false}
 use mathlib.Core.List.{List, [], _∷_}
@@ -6,7 +6,7 @@ use Prim.Native.Nat.{ℕ}
 use Rattle.lists.specs.Tests.{_and_}
 use Rattle.lists.specs.Lists.{any, filter, flat}
 use Rattle.layout.specs.Content.{Vertex, Hyperedge, Table}
-use Rattle.layout.specs.Steps.{stepsOf, isStep, makesStep}
+use Rattle.layout.specs.Steps.{stepsOf, isStep, makesStep, hasStep}
 use Rattle.lookups.specs.declared.Relation.the-variants.{From, To, Around}
 use Rattle.lookups.specs.declared.Listing.the-variants.{Connecting, Weighing, Holding}
 use Rattle.lookups.specs.Lookups.{coMember, relates, isRelated, related, hasEnd, places, placesIn, sum, degree, held, block, listing, weighs, verticesWeighing}
@@ -79,3 +79,16 @@ holding = refl
 pub index : verticesWeighing 3 G ≡ 3 ∷ []
 unfolding G table vertex edge verticesWeighing weighs filter
 index = refl
+
+pub connected : listing (Connecting 0 1) K ≡ 0 ∷ 1 ∷ 2 ∷ []
+unfolding K table vertex edge listing flat block placesIn places filter stepsOf isStep _and_
+connected = refl
+
+-- adjacency is the table's steps, read forward and backward
+pub steps-from : (t : Table) (v y : ℕ) → isRelated From t v y ≡ hasStep t v y
+unfolding isRelated relates hasStep
+steps-from t v y = refl
+
+pub steps-to : (t : Table) (v y : ℕ) → isRelated To t v y ≡ hasStep t y v
+unfolding isRelated relates hasStep
+steps-to t v y = refl
