@@ -41,3 +41,90 @@ pub extern "C" fn timed_remove_vertex(t: &mut [u32], v: VertexIndex) -> Reply {
 pub extern "C" fn timed_remove_hyperedge(t: &mut [u32], e: HyperedgeIndex) -> Reply {
     layout::reply_of(edits::remove_hyperedge::remove_hyperedge(t, e))
 }
+
+#[no_mangle]
+pub extern "C" fn timed_get_adjacent_vertices_from(
+    t: &[u32],
+    v: VertexIndex,
+    out: &mut [u32],
+) -> Reply {
+    layout::reply_of(lookups::get_adjacent_vertices_from(t, v, out))
+}
+
+#[no_mangle]
+pub extern "C" fn timed_get_vertex_neighborhood(
+    t: &[u32],
+    v: VertexIndex,
+    out: &mut [u32],
+) -> Reply {
+    layout::reply_of(lookups::get_vertex_neighborhood(t, v, out))
+}
+
+#[no_mangle]
+pub extern "C" fn timed_get_vertex_degree_out(t: &[u32], v: VertexIndex) -> Reply {
+    layout::reply_of(lookups::get_vertex_degree_out(t, v))
+}
+
+#[no_mangle]
+pub extern "C" fn timed_get_hyperedges_connecting(
+    t: &[u32],
+    from: VertexIndex,
+    to: VertexIndex,
+    out: &mut [u32],
+) -> Reply {
+    layout::reply_of(lookups::get_hyperedges_connecting(t, from, to, out))
+}
+
+#[no_mangle]
+pub extern "C" fn timed_find_hyperedges_by_weight(
+    t: &[u32],
+    weight: u32,
+    out: &mut [u32],
+) -> Reply {
+    layout::reply_of(lookups::find_hyperedges_by_weight(t, weight, out))
+}
+
+#[no_mangle]
+pub extern "C" fn timed_get_full_vertex_hyperedges(
+    t: &[u32],
+    v: VertexIndex,
+    out: &mut [u32],
+) -> Reply {
+    layout::reply_of(lookups::get_full_vertex_hyperedges(t, v, out))
+}
+
+#[no_mangle]
+pub extern "C" fn timed_get_vertex_index(t: &[u32], weight: u32, out: &mut [u32]) -> Reply {
+    layout::reply_of(lookups::get_vertex_index(t, weight, out))
+}
+
+#[no_mangle]
+pub extern "C" fn timed_contains_vertex(t: &[u32], weight: u32) -> Reply {
+    layout::reply_of(lookups::contains_vertex(t, weight))
+}
+
+#[no_mangle]
+pub extern "C" fn timed_is_reachable(t: &[u32], from: VertexIndex, to: VertexIndex) -> Reply {
+    layout::reply_of(traversal::is_reachable(t, from, to))
+}
+
+#[no_mangle]
+pub extern "C" fn timed_get_bfs(t: &[u32], v: VertexIndex, out: &mut [u32]) -> Reply {
+    layout::reply_of(traversal::get_bfs(t, v, out))
+}
+
+#[no_mangle]
+pub extern "C" fn timed_random_walk(
+    t: &[u32],
+    start: VertexIndex,
+    steps: usize,
+    seed: u64,
+    out: &mut [u32],
+) -> Reply {
+    layout::reply_of(walk::random_walk(t, start, steps, seed, out))
+}
+
+#[no_mangle]
+pub extern "C" fn timed_write_frames(t: &[u32], text: &mut [u8]) -> Reply {
+    layout::reply_of(frames::write_frames(t, text))
+}
