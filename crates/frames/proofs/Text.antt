@@ -77,50 +77,50 @@ unfolding hyperedgeLine hyperedgeFrame numberBytes
 hyperedge-length e = omega (arith, line-length (hyperedgeFrame e), numbers-length (e .members))
 
 module _ (L : ℕ) (ws : List ℕ) where
-  abbrev pub edges : ℕ → List ℕ
-  edges j = flat hyperedgeLine (tab (hyperedgeAt L ws) j)
+  abbrev pub hyperedgeLines : ℕ → List ℕ
+  hyperedgeLines j = flat hyperedgeLine (tab (hyperedgeAt L ws) j)
 
-  pub edges-none : (at : ℕ) (text : List ℕ) → at ≤ length text → Put at (length (edges 0)) (edges 0) text text at
-  edges-none at text h = put-as (sym (ap length (flat-none hyperedgeLine (hyperedgeAt L ws)))) (sym (flat-none hyperedgeLine (hyperedgeAt L ws))) (put-none at text h)
+  pub hyperedges-none : (at : ℕ) (text : List ℕ) → at ≤ length text → Put at (length (hyperedgeLines 0)) (hyperedgeLines 0) text text at
+  hyperedges-none at text h = put-as (sym (ap length (flat-none hyperedgeLine (hyperedgeAt L ws)))) (sym (flat-none hyperedgeLine (hyperedgeAt L ws))) (put-none at text h)
 
-  edges-length : (j : ℕ) → length (edges j) + hyperedgeLength (length (membersAt L ws j)) ≡ length (edges (j + 1))
-  edges-length j =
-      omega (arith, hyperedge-length (hyperedgeAt L ws j), length-append (edges j) (hyperedgeLine (hyperedgeAt L ws j)), ap length (flat-more hyperedgeLine (hyperedgeAt L ws) j))
+  lines-length : (j : ℕ) → length (hyperedgeLines j) + hyperedgeLength (length (membersAt L ws j)) ≡ length (hyperedgeLines (j + 1))
+  lines-length j =
+      omega (arith, hyperedge-length (hyperedgeAt L ws j), length-append (hyperedgeLines j) (hyperedgeLine (hyperedgeAt L ws j)), ap length (flat-more hyperedgeLine (hyperedgeAt L ws) j))
 
-  pub edges-room : (at next j m : ℕ) (before text : List ℕ) → j < m → at + length (edges m) ≤ length before → length text ≡ length before
-      → Put at (length (edges j)) (edges j) before text next → next + hyperedgeLength (length (membersAt L ws j)) ≤ length text
-  edges-room at next j m before text h l e f = omega (arith, f .reached, flat-room hyperedgeLine (hyperedgeAt L ws) m j h, hyperedge-length (hyperedgeAt L ws j))
+  pub line-room : (at next j m : ℕ) (before text : List ℕ) → j < m → at + length (hyperedgeLines m) ≤ length before → length text ≡ length before
+      → Put at (length (hyperedgeLines j)) (hyperedgeLines j) before text next → next + hyperedgeLength (length (membersAt L ws j)) ≤ length text
+  line-room at next j m before text h l e f = omega (arith, f .reached, flat-room hyperedgeLine (hyperedgeAt L ws) m j h, hyperedge-length (hyperedgeAt L ws j))
 
-  pub edges-more : (j : ℕ) {at p q : ℕ} {a b c : List ℕ} → Put at (length (edges j)) (edges j) a b p
-      → Put p (hyperedgeLength (length (membersAt L ws j))) (hyperedgeLine (hyperedgeAt L ws j)) b c q → Put at (length (edges (j + 1))) (edges (j + 1)) a c q
-  edges-more j f g = put-as (edges-length j) (flat-more hyperedgeLine (hyperedgeAt L ws) j) (put-append f g)
+  pub hyperedges-more : (j : ℕ) {at p q : ℕ} {a b c : List ℕ} → Put at (length (hyperedgeLines j)) (hyperedgeLines j) a b p
+      → Put p (hyperedgeLength (length (membersAt L ws j))) (hyperedgeLine (hyperedgeAt L ws j)) b c q → Put at (length (hyperedgeLines (j + 1))) (hyperedgeLines (j + 1)) a c q
+  hyperedges-more j f g = put-as (lines-length j) (flat-more hyperedgeLine (hyperedgeAt L ws) j) (put-append f g)
 
-  pub edges-end : (j m : ℕ) {at p : ℕ} {a b : List ℕ} → j ≤ m → m ≤ j → Put at (length (edges j)) (edges j) a b p → Put at (length (edges m)) (edges m) a b p
-  edges-end j m h l f = rw (← le-antisymm h l) f
+  pub hyperedges-end : (j m : ℕ) {at p : ℕ} {a b : List ℕ} → j ≤ m → m ≤ j → Put at (length (hyperedgeLines j)) (hyperedgeLines j) a b p → Put at (length (hyperedgeLines m)) (hyperedgeLines m) a b p
+  hyperedges-end j m h l f = rw (← le-antisymm h l) f
 
   -- ms is what `members_formed` returned
   module _ (j : ℕ) (ms : List ℕ) (e : ms ≡ membersAt L ws j) where
     pub members-limit : Formed L ws → j < hyperedgeCount ws → length ms ≤ L
     members-limit f h = rw e (members-le L ws f j h)
 
-    pub edge-room : (at : ℕ) (text : List ℕ) → at + hyperedgeLength (length (membersAt L ws j)) ≤ length text → at + hyperedgeLength (length ms) ≤ length text
-    edge-room at text h = rw e h
+    pub members-room : (at : ℕ) (text : List ℕ) → at + hyperedgeLength (length (membersAt L ws j)) ≤ length text → at + hyperedgeLength (length ms) ≤ length text
+    members-room at text h = rw e h
 
-    pub edge-put : (x w : ℕ) {at p : ℕ} {a b : List ℕ} → x ≡ hyperedgeAt L ws j .number → w ≡ hyperedgeAt L ws j .weight
+    pub hyperedge-at-put : (x w : ℕ) {at p : ℕ} {a b : List ℕ} → x ≡ hyperedgeAt L ws j .number → w ≡ hyperedgeAt L ws j .weight
         → Put at (hyperedgeLength (length ms)) (hyperedgeLine (hyperedgeOf x w ms)) a b p → Put at (hyperedgeLength (length (membersAt L ws j))) (hyperedgeLine (hyperedgeAt L ws j)) a b p
-    edge-put x w ex ew f = rw (← ex, ← ew, ← e) f
+    hyperedge-at-put x w ex ew f = rw (← ex, ← ew, ← e) f
 
-    pub edge-length : 23 + length ms * memberLength ≡ length (hyperedgeLine (hyperedgeAt L ws j))
-    edge-length = omega (arith, hyperedge-length (hyperedgeAt L ws j), ap length e)
+    pub hyperedge-at-length : 23 + length ms * memberLength ≡ length (hyperedgeLine (hyperedgeAt L ws j))
+    hyperedge-at-length = omega (arith, hyperedge-length (hyperedgeAt L ws j), ap length e)
 
-  pub length-none : 0 ≡ length (edges 0)
+  pub length-none : 0 ≡ length (hyperedgeLines 0)
   length-none = sym (ap length (flat-none hyperedgeLine (hyperedgeAt L ws)))
 
-  pub length-more : (j sum x : ℕ) → sum ≡ length (edges j) → x ≡ length (hyperedgeLine (hyperedgeAt L ws j)) → sum + x ≡ length (edges (j + 1))
-  length-more j sum x e f = rw (e, f) (sym (length-append (edges j) (hyperedgeLine (hyperedgeAt L ws j))) ∙ ap length (flat-more hyperedgeLine (hyperedgeAt L ws) j))
+  pub length-more : (j sum x : ℕ) → sum ≡ length (hyperedgeLines j) → x ≡ length (hyperedgeLine (hyperedgeAt L ws j)) → sum + x ≡ length (hyperedgeLines (j + 1))
+  length-more j sum x e f = rw (e, f) (sym (length-append (hyperedgeLines j) (hyperedgeLine (hyperedgeAt L ws j))) ∙ ap length (flat-more hyperedgeLine (hyperedgeAt L ws) j))
 
-  pub length-end : (sum j m : ℕ) → j ≤ m → m ≤ j → sum ≡ length (edges j) → sum ≡ length (edges m)
-  length-end sum j m h l e = e ∙ ap (λ (k : ℕ). length (edges k)) (le-antisymm h l)
+  pub length-end : (sum j m : ℕ) → j ≤ m → m ≤ j → sum ≡ length (hyperedgeLines j) → sum ≡ length (hyperedgeLines m)
+  length-end sum j m h l e = e ∙ ap (λ (k : ℕ). length (hyperedgeLines k)) (le-antisymm h l)
 
 -- ---- the whole text
 
@@ -133,7 +133,7 @@ unfolding vertexLine vertexFrame numberBytes
 vertices-length vs = flat-length vertexLine vertexLength vs (vertexOf 0 0) (λ i h. line-length (vertexFrame (getD vs i (vertexOf 0 0))))
 
 module _ (L : ℕ) (ws : List ℕ) (n m : ℕ) (en : n ≡ vertexCount ws) (em : m ≡ hyperedgeCount ws) where
-  text-length : headLength + n * vertexLength + length (edges L ws m) ≡ length (frameText (read L ws))
+  text-length : headLength + n * vertexLength + length (hyperedgeLines L ws m) ≡ length (frameText (read L ws))
   unfolding frameText headLine
   text-length =
       let t : Table = read L ws in
@@ -155,18 +155,18 @@ module _ (L : ℕ) (ws : List ℕ) (n m : ℕ) (en : n ≡ vertexCount ws) (em :
       pub vertices-room : p + n * vertexLength ≤ length b
       vertices-room = omega (arith, text-length, put-length f, f .reached)
 
-      pub hyperedges-room : (c ys : List ℕ) (q : ℕ) → Put p (n * vertexLength) ys b c q → q + length (edges L ws m) ≤ length c
+      pub hyperedges-room : (c ys : List ℕ) (q : ℕ) → Put p (n * vertexLength) ys b c q → q + length (hyperedgeLines L ws m) ≤ length c
       hyperedges-room c ys q g = omega (arith, text-length, put-length f, f .reached, put-length g, g .reached)
 
-  pub text-length-is : (k : ℕ) → k ≡ length (edges L ws m) → headLength + n * vertexLength + k ≡ length (frameText (read L ws))
+  pub text-length-is : (k : ℕ) → k ≡ length (hyperedgeLines L ws m) → headLength + n * vertexLength + k ≡ length (frameText (read L ws))
   text-length-is k e = rw e text-length
 
   pub text-put : (x y : ℕ) {p q r : ℕ} {a b c d : List ℕ} → x ≡ nextVertexIn ws → y ≡ nextHyperedgeIn ws
       → Put 0 headLength (line (headFrame x y n m)) a b p → Put p (n * vertexLength) (flat vertexLine (tab (vertexAt ws) n)) b c q
-      → Put q (length (edges L ws m)) (edges L ws m) c d r → Put 0 (length (frameText (read L ws))) (frameText (read L ws)) a d r
+      → Put q (length (hyperedgeLines L ws m)) (hyperedgeLines L ws m) c d r → Put 0 (length (frameText (read L ws))) (frameText (read L ws)) a d r
   unfolding frameText headLine
   text-put x y ex ey f g h =
-      put-as (sym (add-assoc headLength (n * vertexLength) (length (edges L ws m))) ∙ text-length)
+      put-as (sym (add-assoc headLength (n * vertexLength) (length (hyperedgeLines L ws m))) ∙ text-length)
       (rw (ex, ey, en, em, length-tab (vertexAt ws) (vertexCount ws), length-tab (hyperedgeAt L ws) (hyperedgeCount ws)))
       (put-append f (put-append g h))
 

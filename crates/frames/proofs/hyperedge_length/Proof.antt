@@ -4,7 +4,7 @@ use native.Mathlib.Omega.{arith}
 use denote.Ref.{now}
 use lib.ListN.{length}
 use Rattle.layout.specs.Layout.{limit}
-use Rattle.frames.proofs.Text.{members-limit, edge-length}
+use Rattle.frames.proofs.Text.{members-limit, hyperedge-at-length}
 use borrow.Author.Needs.{needs}
 use Rattle.frames.proofs.hyperedge_length.Statement.{statement}
 use Rattle.frames.proofs.hyperedge_length.Tie as tie
@@ -22,7 +22,7 @@ add-result : tie.Need-add-result
 add-result c = omega (arith, few c)
 
 returns : tie.Need-returns
-returns c = (search edge-length, omega (arith, few c))
+returns c = (search hyperedge-at-length, omega (arith, few c))
 
 pub hyperedge-length-spec : {M : Type 1} → statement M
 hyperedge-length-spec = tie.close (tie.spec members-formed-requires mul-result add-result returns)

@@ -5,13 +5,13 @@ use denote.Ref.{now}
 use lib.ListN.{length}
 use Rattle.layout.specs.Layout.{limit}
 use Rattle.frames.specs.Frames.{hyperedgeLength}
-use Rattle.frames.proofs.Text.{edges, length-none, length-more, length-end}
+use Rattle.frames.proofs.Text.{hyperedgeLines, length-none, length-more, length-end}
 use borrow.Author.Needs.{needs}
 use Rattle.frames.proofs.hyperedges_length.Statement.{statement}
 use Rattle.frames.proofs.hyperedges_length.Tie as tie
 
 abbrev Inv-loop : tie.InvT-loop
-Inv-loop t m sum₀ j₀ sum j = (j ≤ m) × (sum ≤ j * hyperedgeLength limit) × (sum ≡ length (edges limit t j))
+Inv-loop t m sum₀ j₀ sum j = (j ≤ m) × (sum ≤ j * hyperedgeLength limit) × (sum ≡ length (hyperedgeLines limit t j))
 
 abbrev μ-loop : tie.MeasureT-loop
 μ-loop t m sum₀ j₀ sum j = m - j

@@ -1,5 +1,5 @@
 -- `frames::put_hyperedge_at` meets its contract. Assumes nothing.
-use Rattle.frames.proofs.Text.{members-limit, edge-room, edge-put}
+use Rattle.frames.proofs.Text.{members-limit, members-room, hyperedge-at-put}
 use borrow.Author.Needs.{needs}
 use Rattle.frames.proofs.put_hyperedge_at.Statement.{statement}
 use Rattle.frames.proofs.put_hyperedge_at.Tie as tie
@@ -14,13 +14,13 @@ hyperedge-weight-requires : tie.Need-hyperedge-weight-requires
 hyperedge-weight-requires c κs = search needs
 
 put-hyperedge-requires : tie.Need-put-hyperedge-requires
-put-hyperedge-requires c κs = (search members-limit, search edge-room)
+put-hyperedge-requires c κs = (search members-limit, search members-room)
 
 same-length : tie.Need-same-length
 same-length c = search needs
 
 returns : tie.Need-returns
-returns c = search edge-put
+returns c = search hyperedge-at-put
 
 pub put-hyperedge-at-spec : {M : Type 1} → statement M
 put-hyperedge-at-spec =
