@@ -5,3 +5,4 @@ pub mod Drawing
 pub mod Among
 pub mod Records
 pub mod Together
+pub mod Numbers

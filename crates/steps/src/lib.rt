@@ -1,13 +1,19 @@
-// From a table to a matrix of marks by record: its steps, its turned steps, and its steps without direction.
+// From a table to a matrix of marks by record: its steps, its turned steps, and its steps without direction; and from records back to numbers.
 ghost use mathlib.Core.Path.{_≡_};
 ghost use mathlib.Core.Bool.{true};
-ghost use Prim.Native.Nat.{_<_, _+_};
+ghost use mathlib.Core.List.{map};
+ghost use Prim.Native.Nat.{_<_, _+_, _≤_};
+ghost use lib.ListN.{length, take};
+ghost use Rattle.lists.specs.Lists.{over};
 ghost use Rattle.layout.specs.declared.Found.the-variants.{At};
 ghost use Rattle.layout.specs.Content.{liveVertices, isLive, position};
 ghost use Rattle.layout.specs.Layout.{limit, vertexLimit, vertexCount, hyperedgeCount, read};
 ghost use Rattle.layout.specs.WellFormed.{Formed};
-ghost use Rattle.steps.specs.Matrices.{cell, Holds, stepsBetween, turnedBetween, linksBetween};
+ghost use Rattle.layout.specs.Answers.{result, listed};
+ghost use Rattle.steps.specs.Matrices.{cell, Holds, numberOf, stepsBetween, turnedBetween, linksBetween};
+ghost use Rattle.steps.specs.Ordered.{Ordered};
 ghost use Rattle.steps.specs.Drawn.{putting, Drawn};
+use layout::Answer;
 use layout::Found;
 use layout::VertexIndex;
 
@@ -103,4 +109,30 @@ pub fn link_matrix(t: &[u32], m: &mut [u8; 65536])
     let blank = [0u8; 65536];
     *m = blank;
     draw(t, true, true, m);
+}
+
+// Writes the numbers of the first c records of `order` from the front of out.
+fn write_numbers(t: &[u32], order: &[u32; 256], c: usize, out: &mut [u32])
+    requires { ⌜ Formed limit (now t) ⌝ }
+    requires { ⌜ (c ≤ length (now out)) × Ordered (vertexCount (now t)) c (now order) (take c (now order)) ⌝ }
+    ensures { λ _. ⌜ now (out .exit) ≡ over (map (numberOf (read limit (now (t .entry)))) (take c (now (order .entry)))) (now (out .entry)) ⌝ }
+{
+    let mut k = 0;
+    while k < c {
+        out[k] = layout::vertex_number(t, order[k] as usize);
+        k += 1;
+    }
+}
+
+// Lists the numbers of the first c records of `order`.
+pub fn list_records(t: &[u32], order: &[u32; 256], c: usize, out: &mut [u32]) -> Answer
+    requires { ⌜ Formed limit (now t) ⌝ }
+    requires { ⌜ Ordered (vertexCount (now t)) c (now order) (take c (now order)) ⌝ }
+    ensures { λ r. ⌜ result r (now (out .exit)) ≡ listed (map (numberOf (read limit (now (t .entry)))) (take c (now (order .entry)))) (now (out .entry)) ⌝ }
+{
+    if out.len() < c {
+        return Answer::NoRoom(c);
+    }
+    write_numbers(t, order, c, out);
+    Answer::Done(c)
 }

@@ -1,2 +1,1 @@
 pub mod Traversal
-pub mod Ordered

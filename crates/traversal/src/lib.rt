@@ -1,18 +1,17 @@
 // Traversal: breadth first from a vertex, and whether one vertex is reached from another.
 ghost use mathlib.Core.Path.{_≡_};
-ghost use mathlib.Core.List.{[], map};
-ghost use Prim.Native.Nat.{_<_, _≤_};
-ghost use lib.ListN.{length, take};
+ghost use mathlib.Core.List.{[]};
+ghost use Prim.Native.Nat.{_<_};
 ghost use Rattle.lists.specs.Tests.{bit};
-ghost use Rattle.lists.specs.Lists.{memb, over};
+ghost use Rattle.lists.specs.Lists.{memb};
 ghost use Rattle.layout.specs.Content.{liveVertices, position};
 ghost use Rattle.layout.specs.Layout.{limit, vertexCount, read};
 ghost use Rattle.layout.specs.WellFormed.{Formed};
 ghost use Rattle.layout.specs.Answers.{result, onFormed, listed};
 ghost use Rattle.graph.specs.Bfs.{bfs};
-ghost use Rattle.steps.specs.Matrices.{numberOf, stepsBetween};
+ghost use Rattle.steps.specs.Matrices.{stepsBetween};
 ghost use Rattle.traversal.specs.Traversal.{breadthFrom, bfsResult, reachableResult};
-ghost use Rattle.traversal.specs.Ordered.{Ordered};
+ghost use Rattle.steps.specs.Ordered.{Ordered};
 use layout::Answer;
 use layout::Found;
 use layout::VertexIndex;
@@ -76,19 +75,6 @@ fn order_from(t: &[u32], i: usize, order: &mut [u32; 256]) -> usize
     graph::get_bfs(&m, n, i, order)
 }
 
-// Writes the numbers of the first c records of `order` from the front of out.
-fn write_numbers(t: &[u32], order: &[u32; 256], c: usize, out: &mut [u32])
-    requires { ⌜ Formed limit (now t) ⌝ }
-    requires { ⌜ (c ≤ length (now out)) × Ordered (vertexCount (now t)) c (now order) (take c (now order)) ⌝ }
-    ensures { λ _. ⌜ now (out .exit) ≡ over (map (numberOf (read limit (now (t .entry)))) (take c (now (order .entry)))) (now (out .entry)) ⌝ }
-{
-    let mut k = 0;
-    while k < c {
-        out[k] = layout::vertex_number(t, order[k] as usize);
-        k += 1;
-    }
-}
-
 fn list_from(t: &[u32], i: usize, out: &mut [u32]) -> Answer
     requires { ⌜ Formed limit (now t) ⌝ }
     requires { ⌜ i < vertexCount (now t) ⌝ }
@@ -96,11 +82,7 @@ fn list_from(t: &[u32], i: usize, out: &mut [u32]) -> Answer
 {
     let mut order = [0u32; 256];
     let c = order_from(t, i, &mut order);
-    if out.len() < c {
-        return Answer::NoRoom(c);
-    }
-    write_numbers(t, &order, c, out);
-    Answer::Done(c)
+    steps::list_records(t, &order, c, out)
 }
 
 fn breadth_first(t: &[u32], v: VertexIndex, out: &mut [u32]) -> Answer

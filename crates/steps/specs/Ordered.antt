@@ -1,4 +1,4 @@
--- Assumes nothing.
+-- A listing of records, in the first places of an array. Assumes nothing.
 use mathlib.Core.Path.{_≡_}
 use mathlib.Core.List.{List}
 use Prim.Native.Nat.{ℕ, _≤_}

@@ -1,14 +1,14 @@
--- `traversal::write_numbers` meets its contract: `Wrote` at each place. Assumes nothing.
+-- `steps::write_numbers` meets its contract: `Wrote` at each place. Assumes nothing.
 use mathlib.Core.Path.{refl}
 use Prim.Native.Nat.{_≤_, _-_}
 use native.Mathlib.Omega.{arith}
 use denote.Ref.{now}
 use Rattle.layout.specs.Layout.{limit, read}
 use Rattle.steps.specs.Matrices.{numberOf}
 use borrow.Author.Needs.{needs}
-use Rattle.traversal.proofs.Listing.{ordered-at, Wrote, wrote-none, wrote-more, wrote-end, number-at}
-use Rattle.traversal.proofs.write_numbers.Statement.{statement}
-use Rattle.traversal.proofs.write_numbers.Tie as tie
+use Rattle.steps.proofs.Numbers.{ordered-at, Wrote, wrote-none, wrote-more, wrote-end, number-at}
+use Rattle.steps.proofs.write_numbers.Statement.{statement}
+use Rattle.steps.proofs.write_numbers.Tie as tie
 
 abbrev Inv-loop : tie.InvT-loop
 Inv-loop t order c out₀ k₀ out k = (k ≤ c) × Wrote (numberOf (read limit t)) order out₀ k out
