@@ -1,0 +1,5 @@
+pub mod Parting
+pub mod Searching
+pub mod Gathering
+pub mod Removed
+pub mod Cuts

@@ -1,0 +1,49 @@
+-- `cut::judge` meets its contract: the records before v are judged. Assumes nothing.
+use Prim.Native.Nat.{_≤_, _-_}
+use Rattle.graph.specs.Reach.{matrix}
+use Rattle.cut.specs.State.{Judged}
+use Rattle.cut.proofs.Searching.{judged-none, judged-more, judged-end}
+use borrow.Author.Needs.{needs}
+use Rattle.cut.proofs.judge.Statement.{statement}
+use Rattle.cut.proofs.judge.Tie as tie
+
+abbrev Inv-loop : tie.InvT-loop
+Inv-loop m n cuts₀ v₀ cuts v = (v ≤ n) × Judged (matrix m) n v cuts
+
+abbrev μ-loop : tie.MeasureT-loop
+μ-loop m n cuts₀ v₀ cuts v = n - v
+
+loop-holds : tie.Need-loop-holds Inv-loop μ-loop
+loop-holds c = (search needs, search judged-none)
+
+is-cut-requires : tie.Need-is-cut-requires Inv-loop μ-loop
+is-cut-requires c κs = search needs
+
+element-write-cuts : tie.Need-element-write-cuts Inv-loop μ-loop
+element-write-cuts c = search needs
+
+add-v : tie.Need-add-v Inv-loop μ-loop
+add-v c = search needs
+
+loop-less : tie.Need-loop-less Inv-loop μ-loop
+loop-less c = search needs
+
+loop-again : tie.Need-loop-again Inv-loop μ-loop
+loop-again c = (search needs, search judged-more)
+
+returns : tie.Need-returns Inv-loop μ-loop
+returns c = search judged-end
+
+pub judge-spec : {M : Type 1} → statement M
+judge-spec =
+    tie.close
+    (tie.spec
+    Inv-loop
+    μ-loop
+    loop-holds
+    is-cut-requires
+    element-write-cuts
+    add-v
+    loop-less
+    loop-again
+    returns)

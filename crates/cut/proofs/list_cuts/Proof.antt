@@ -1,0 +1,36 @@
+-- `cut::list_cuts` meets its contract. Assumes nothing.
+use mathlib.Core.Bool.{Bool, false}
+use lib.ListN.{length-replicate}
+use Rattle.cut.proofs.Cuts.{mirrored-by, cuts-listed}
+use borrow.Author.Needs.{needs}
+use Rattle.cut.proofs.list_cuts.Statement.{statement}
+use Rattle.cut.proofs.list_cuts.Tie as tie
+
+vertex-count-requires : tie.Need-vertex-count-requires
+vertex-count-requires c κs = search needs
+
+together-matrix-requires : tie.Need-together-matrix-requires
+together-matrix-requires c κs = search needs
+
+judge-requires : tie.Need-judge-requires
+judge-requires c κs = (search needs, search mirrored-by, length-replicate {A = Bool} 256 false)
+
+list-marked-requires : tie.Need-list-marked-requires
+list-marked-requires c κs = search needs
+
+same-length : tie.Need-same-length
+same-length c = search needs
+
+returns : tie.Need-returns
+returns c = search cuts-listed
+
+pub list-cuts-spec : {M : Type 1} → statement M
+list-cuts-spec =
+    tie.close
+    (tie.spec
+    vertex-count-requires
+    together-matrix-requires
+    judge-requires
+    list-marked-requires
+    same-length
+    returns)

@@ -1,0 +1,17 @@
+-- `cut::reach_past` meets its contract. Assumes nothing.
+use Rattle.cut.proofs.Searching.{reached-past}
+use borrow.Author.Needs.{needs}
+use Rattle.cut.proofs.reach_past.Statement.{statement}
+use Rattle.cut.proofs.reach_past.Tie as tie
+
+clear-row-requires : tie.Need-clear-row-requires
+clear-row-requires c κs = search needs
+
+reach-from-requires : tie.Need-reach-from-requires
+reach-from-requires c κs = search needs
+
+returns : tie.Need-returns
+returns c = search reached-past
+
+pub reach-past-spec : {M : Type 1} → statement M
+reach-past-spec = tie.close (tie.spec clear-row-requires reach-from-requires returns)

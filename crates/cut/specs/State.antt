@@ -1,0 +1,90 @@
+-- What the matrix of co-membership holds while it is made, and what the search for each record finds. Assumes nothing.
+use mathlib.Core.Path.{_≡_}
+use mathlib.Core.Bool.{Bool, true, false, not, _||_}
+use mathlib.Core.List.{List, [], _∷_}
+use Prim.Native.Nat.{ℕ, _≤_, _<_}
+use lib.Dec.{eqb}
+use lib.ListN.{length, getD, take, set}
+use Rattle.lists.specs.Tests.{_and_}
+use Rattle.lists.specs.Lists.{any, Below}
+use Rattle.layout.specs.Content.{Table}
+use Rattle.layout.specs.Layout.{limit, vertexLimit, vertexCount, read}
+use Rattle.graph.specs.Reach.{matrix, Edge}
+use Rattle.steps.specs.Matrices.{together, listsBoth, between, cell, Holds}
+use Rattle.cut.specs.Cut.{Parted}
+
+-- ---- the matrix of co-membership
+
+abbrev pub togetherBetween : Table → ℕ → ℕ → Bool
+togetherBetween t = between t (together t)
+
+-- one of the first k hyperedges lists x and y
+unfoldable pub firstTogether : Table → ℕ → ℕ → ℕ → Bool
+firstTogether t k x y = any (listsBoth x y) (take k (t .hyperedges))
+
+-- the matrix after the first k hyperedges of the table
+abbrev pub Gathered : List ℕ → ℕ → List ℕ → Type 0
+Gathered ws k m = Holds (between (read limit ws) (firstTogether (read limit ws) k)) (vertexCount ws) m
+
+-- the c records l, each below n, stand in the first places of an array
+pub record Places (n c : ℕ) (places l : List ℕ) : Type 0 where
+  pub first : take c places ≡ l
+  pub count : c ≡ length l
+  pub short : c ≤ limit
+  pub below : Below n l
+
+-- a mark for a and each of the list
+unfoldable pub withRow : ℕ → List ℕ → List ℕ → List ℕ
+withRow a [] m = m
+withRow a (b ∷ bs) m = withRow a bs (set m (cell a b) 1)
+
+-- a mark for each of the first list and each of the second
+unfoldable pub withPairs : List ℕ → List ℕ → List ℕ → List ℕ
+withPairs [] bs m = m
+withPairs (a ∷ rest) bs m = withPairs rest bs (withRow a bs m)
+
+-- ---- the search, by record
+
+-- the relation without v
+unfoldable pub avoiding : (ℕ → ℕ → Bool) → ℕ → ℕ → ℕ → Bool
+avoiding E v x y = (not (eqb x v) and not (eqb y v)) and E x y
+
+-- the relation, where nothing leads on from v
+unfoldable pub stopping : (ℕ → ℕ → Bool) → ℕ → ℕ → ℕ → Bool
+stopping E v x y = not (eqb x v) and E x y
+
+-- another record that shares a list with v
+unfoldable pub isMate : (ℕ → ℕ → Bool) → ℕ → ℕ → Bool
+isMate E v j = not (eqb j v) and E v j
+
+-- the first mate of v below n, or n
+pub record FirstMate (E : ℕ → ℕ → Bool) (n v r : ℕ) : Type 0 where
+  pub within : r ≤ n
+  pub none : (j : ℕ) → j < r → isMate E v j ≡ false
+  pub found : r < n → isMate E v r ≡ true
+
+-- j is marked, if it is a mate of v
+unfoldable pub isKept : (ℕ → ℕ → Bool) → ℕ → List ℕ → ℕ → Bool
+isKept E v marks j = not (isMate E v j) || eqb (getD marks j 0) 1
+
+-- the matrix p is the matrix m, where nothing leads on from v
+abbrev pub Stopped : ℕ → List ℕ → List ℕ → Type 0
+Stopped v m p = (i j : ℕ) → i < vertexLimit → j < vertexLimit → matrix p i j ≡ stopping (matrix m) v i j
+
+-- what leads from i to j leads from j to i
+abbrev pub Mirrored : (ℕ → ℕ → Bool) → ℕ → Type 0
+Mirrored E n = (i j : ℕ) → i < n → j < n → E i j ≡ true → E j i ≡ true
+
+-- two other records are linked, and are not without v
+abbrev pub CutIn : (ℕ → ℕ → Bool) → ℕ → ℕ → Type 0
+CutIn E n v = Parted (Edge E n) (Edge (avoiding E v) n) v
+
+-- r is whether P holds
+pub record Decides (r : Bool) (P : Type 0) : Type 0 where
+  pub yes : r ≡ true → P
+  pub no : r ≡ false → P → ⊥
+
+-- of the first k records, exactly the cut ones are marked
+pub record Judged (E : ℕ → ℕ → Bool) (n k : ℕ) (cuts : List Bool) : Type 0 where
+  pub long : length cuts ≡ vertexLimit
+  pub each : (i : ℕ) → i < k → Decides (getD cuts i false) (CutIn E n i)

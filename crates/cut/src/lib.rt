@@ -1,0 +1,226 @@
+// Cut vertices: each vertex without which two others are no longer linked through co-membership.
+ghost use mathlib.Core.Path.{_≡_};
+ghost use mathlib.Core.List.{map};
+ghost use Prim.Native.Nat.{_+_, _<_, _≤_};
+ghost use lib.ListN.{length, take};
+ghost use Rattle.lists.specs.Tests.{every};
+ghost use Rattle.layout.specs.Content.{liveVertices};
+ghost use Rattle.layout.specs.Layout.{limit, vertexLimit, vertexCount, hyperedgeCount, membersAt, read};
+ghost use Rattle.layout.specs.WellFormed.{Formed};
+ghost use Rattle.layout.specs.Answers.{result, onFormed};
+ghost use Rattle.graph.specs.Reach.{matrix};
+ghost use Rattle.graph.specs.Post.{Reached};
+ghost use Rattle.steps.specs.Matrices.{Holds};
+ghost use Rattle.cut.specs.Cut.{recordOf, cutVerticesResult};
+ghost use Rattle.cut.specs.State.{togetherBetween, Gathered, Places, withRow, withPairs, stopping, isMate, FirstMate, isKept, Stopped, Mirrored, CutIn, Decides, Judged};
+use layout::Answer;
+use layout::Found;
+use layout::VertexIndex;
+
+// The record of a live vertex.
+fn record_of(t: &[u32], x: u32) -> usize
+    requires { ⌜ Formed limit (now t) ⌝ }
+    ensures { λ r. ⌜ r ≡ recordOf (liveVertices (read limit (now (t .entry)))) x ⌝ }
+{
+    let f = layout::find_vertex(t, VertexIndex(x));
+    match f {
+        Found::Nothing => 0,
+        Found::At(i) => i,
+    }
+}
+
+// The records of the members of hyperedge record j, each found once.
+fn find_places(t: &[u32], j: usize, places: &mut [u32; layout::MEMBER_LIMIT]) -> usize
+    requires { ⌜ Formed limit (now t) ⌝ }
+    requires { ⌜ (j < hyperedgeCount (now t)) × (length (now places) ≡ limit) ⌝ }
+    ensures { λ r. ⌜ Places (vertexCount (now (t .entry))) r (now (places .exit)) (map (recordOf (liveVertices (read limit (now (t .entry))))) (membersAt limit (now (t .entry)) j)) ⌝ }
+{
+    let ms = layout::members_formed(t, j);
+    let mut i = 0;
+    while i < ms.len() {
+        places[i] = record_of(t, ms[i]) as u32;
+        i += 1;
+    }
+    i
+}
+
+// Marks record a together with each of the first c places.
+fn mark_row(places: &[u32; layout::MEMBER_LIMIT], c: usize, a: usize, m: &mut [u8; 65536])
+    requires { ⌜ (a < vertexLimit) × Places vertexLimit c (now places) (take c (now places)) ⌝ }
+    ensures { λ _. ⌜ now (m .exit) ≡ withRow a (take c (now (places .entry))) (now (m .entry)) ⌝ }
+{
+    let mut i = 0;
+    while i < c {
+        m[a * layout::VERTEX_LIMIT + places[i] as usize] = 1;
+        i += 1;
+    }
+}
+
+// Marks each of the first c places together with each.
+fn mark_pairs(places: &[u32; layout::MEMBER_LIMIT], c: usize, m: &mut [u8; 65536])
+    requires { ⌜ Places vertexLimit c (now places) (take c (now places)) ⌝ }
+    ensures { λ _. ⌜ now (m .exit) ≡ withPairs (take c (now (places .entry))) (take c (now (places .entry))) (now (m .entry)) ⌝ }
+{
+    let mut i = 0;
+    while i < c {
+        mark_row(places, c, places[i] as usize, m);
+        i += 1;
+    }
+}
+
+// Marks the pairs of members of hyperedge record j.
+fn gather_record(t: &[u32], j: usize, m: &mut [u8; 65536])
+    requires { ⌜ Formed limit (now t) ⌝ }
+    requires { ⌜ (j < hyperedgeCount (now t)) × Gathered (now t) j (now m) ⌝ }
+    ensures { λ _. ⌜ Gathered (now (t .entry)) (j + 1) (now (m .exit)) ⌝ }
+{
+    let mut places = [0u32; layout::MEMBER_LIMIT];
+    let c = find_places(t, j, &mut places);
+    mark_pairs(&places, c, m);
+}
+
+// Marks the pairs of members of every hyperedge.
+fn gather(t: &[u32], m: &mut [u8; 65536])
+    requires { ⌜ Formed limit (now t) ⌝ }
+    requires { ⌜ Gathered (now t) 0 (now m) ⌝ }
+    ensures { λ _. ⌜ Gathered (now (t .entry)) (hyperedgeCount (now (t .entry))) (now (m .exit)) ⌝ }
+{
+    let k = layout::hyperedge_count(t);
+    let mut j = 0;
+    while j < k {
+        gather_record(t, j, m);
+        j += 1;
+    }
+}
+
+// The matrix of co-membership.
+pub fn together_matrix(t: &[u32], m: &mut [u8; 65536])
+    requires { ⌜ Formed limit (now t) ⌝ }
+    ensures { λ _. ⌜ Holds (togetherBetween (read limit (now (t .entry)))) (vertexCount (now (t .entry))) (now (m .exit)) ⌝ }
+{
+    let blank = [0u8; 65536];
+    *m = blank;
+    gather(t, m);
+}
+
+// Whether j is another record that shares a list with v.
+fn is_mate(m: &[u8; 65536], v: usize, j: usize) -> bool
+    requires { ⌜ (v < vertexLimit) × (j < vertexLimit) ⌝ }
+    ensures { λ r. ⌜ r ≡ isMate (matrix (now (m .entry))) v j ⌝ }
+{
+    if j == v {
+        return false;
+    }
+    m[v * layout::VERTEX_LIMIT + j] == 1
+}
+
+// The first such record below n, or n.
+fn first_mate(m: &[u8; 65536], n: usize, v: usize) -> usize
+    requires { ⌜ (n ≤ vertexLimit) × (v < n) ⌝ }
+    ensures { λ r. ⌜ FirstMate (matrix (now (m .entry))) n v r ⌝ }
+{
+    let mut j = 0;
+    while j < n {
+        if is_mate(m, v, j) {
+            return j;
+        }
+        j += 1;
+    }
+    n
+}
+
+// Nothing leads on from v any more.
+fn clear_row(m: &mut [u8; 65536], v: usize)
+    requires { ⌜ v < vertexLimit ⌝ }
+    ensures { λ _. ⌜ Stopped v (now (m .entry)) (now (m .exit)) ⌝ }
+{
+    let mut j = 0;
+    while j < layout::VERTEX_LIMIT {
+        m[v * layout::VERTEX_LIMIT + j] = 0;
+        j += 1;
+    }
+}
+
+// Marks what is reached from a, where nothing leads on from v.
+fn reach_past(m: &[u8; 65536], n: usize, v: usize, a: usize, marks: &mut [u8; 256])
+    requires { ⌜ (n ≤ vertexLimit) × (v < n) × (a < n) ⌝ }
+    ensures { λ _. ⌜ Reached (stopping (matrix (now (m .entry))) v) n a (now (marks .exit)) ⌝ }
+{
+    let mut rest = *m;
+    clear_row(&mut rest, v);
+    graph::reach_from(&rest, n, a, marks);
+}
+
+// Whether j is marked, if it shares a list with v.
+fn is_kept(m: &[u8; 65536], v: usize, marks: &[u8; 256], j: usize) -> bool
+    requires { ⌜ (v < vertexLimit) × (j < vertexLimit) ⌝ }
+    ensures { λ r. ⌜ r ≡ isKept (matrix (now (m .entry))) v (now (marks .entry)) j ⌝ }
+{
+    if !is_mate(m, v, j) {
+        return true;
+    }
+    marks[j] == 1
+}
+
+// Whether every other record below n that shares a list with v is marked.
+fn all_kept(m: &[u8; 65536], n: usize, v: usize, marks: &[u8; 256]) -> bool
+    requires { ⌜ (n ≤ vertexLimit) × (v < n) ⌝ }
+    ensures { λ r. ⌜ r ≡ every (isKept (matrix (now (m .entry))) v (now (marks .entry))) n ⌝ }
+{
+    let mut j = 0;
+    while j < n {
+        if !is_kept(m, v, marks, j) {
+            return false;
+        }
+        j += 1;
+    }
+    true
+}
+
+// Whether v is cut: of those that share a list with it, the first does not reach them all without it.
+fn is_cut(m: &[u8; 65536], n: usize, v: usize) -> bool
+    requires { ⌜ (n ≤ vertexLimit) × (v < n) × Mirrored (matrix (now m)) n ⌝ }
+    ensures { λ r. ⌜ Decides r (CutIn (matrix (now (m .entry))) n v) ⌝ }
+{
+    let a = first_mate(m, n, v);
+    if a == n {
+        return false;
+    }
+    let mut marks = [0u8; 256];
+    reach_past(m, n, v, a, &mut marks);
+    !all_kept(m, n, v, &marks)
+}
+
+// Judges each of the n records.
+fn judge(m: &[u8; 65536], n: usize, cuts: &mut [bool; 256])
+    requires { ⌜ (n ≤ vertexLimit) × Mirrored (matrix (now m)) n × (length (now cuts) ≡ vertexLimit) ⌝ }
+    ensures { λ _. ⌜ Judged (matrix (now (m .entry))) n n (now (cuts .exit)) ⌝ }
+{
+    let mut v = 0;
+    while v < n {
+        cuts[v] = is_cut(m, n, v);
+        v += 1;
+    }
+}
+
+fn list_cuts(t: &[u32], out: &mut [u32]) -> Answer
+    requires { ⌜ Formed limit (now t) ⌝ }
+    ensures { λ r. ⌜ result r (now (out .exit)) ≡ cutVerticesResult (now (out .entry)) (read limit (now (t .entry))) ⌝ }
+{
+    let n = layout::vertex_count(t);
+    let mut m = [0u8; 65536];
+    together_matrix(t, &mut m);
+    let mut cuts = [false; 256];
+    judge(&m, n, &mut cuts);
+    marks::list_marked(t, &cuts, out)
+}
+
+// Lists the cut vertices, ascending.
+pub fn find_cut_vertices(t: &[u32], out: &mut [u32]) -> Answer
+    ensures { λ r. ⌜ result r (now (out .exit)) ≡ onFormed (now (t .entry)) (now (out .entry)) (cutVerticesResult (now (out .entry))) ⌝ }
+{
+    if !formed::well_formed(t) {
+        return Answer::NotWellFormed;
+    }
+    list_cuts(t, out)
+}
