@@ -5,10 +5,10 @@ use mathlib.Core.Logic.{_⊎_, inl, inr, ⊎-elim}
 use mathlib.Core.List.{List}
 use Prim.Native.Nat.{ℕ, _<_}
 use lib.Dec.{eqb}
-use lib.ListN.{length, getD}
+use lib.ListN.{getD}
 use borrow.Author.Tests.{eq-eqb, ne-eqb, eqb-false, not-true}
 use Rattle.lists.specs.Tests.{_and_}
-use Rattle.lists.specs.Lists.{any, memb, filter}
+use Rattle.lists.specs.Lists.{any, memb}
 use Rattle.lists.proofs.Cases.{on, on-same, clash, test-ext, and-left, and-right, and-both}
 use Rattle.lists.proofs.Memb.{memb-at, memb-getD}
 use Rattle.lists.proofs.Kept.{memb-filter}
@@ -20,7 +20,7 @@ use Rattle.layout.specs.Answers.{Result, listed}
 use Rattle.layout.proofs.Read.{live-length, live-ascends, formed-of}
 use Rattle.layout.proofs.Shape.{shaped-by}
 use Rattle.layout.proofs.Back.{read-words, words-formed, read-holdable}
-use Rattle.graph.specs.Reach.{matrix, Edge}
+use Rattle.graph.specs.Reach.{matrix}
 use Rattle.graph.proofs.Bfs.{bfs-sound, bfs-complete}
 use Rattle.edits.specs.Edits.{removeVertex}
 use Rattle.edits.proofs.Holdable.{remove-vertex-holdable}

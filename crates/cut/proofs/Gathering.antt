@@ -14,7 +14,7 @@ use mir.Val.{Fits}
 use borrow.Author.Tests.{eq-eqb, ne-eqb}
 use Rattle.lists.specs.Tests.{_and_}
 use Rattle.lists.specs.Lists.{all, any, memb, Below, Ascending}
-use Rattle.lists.proofs.Cases.{on, on-same, and-left, and-right, and-false-right, or-false}
+use Rattle.lists.proofs.Cases.{on-same, and-left, and-right, and-false-right, or-false}
 use Rattle.lists.proofs.Maps.{map-length, map-snoc}
 use Rattle.lists.proofs.Tab.{length-tab, getD-tab}
 use Rattle.lists.proofs.All.{all-of}

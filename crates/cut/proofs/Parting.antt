@@ -7,7 +7,7 @@ use Prim.Native.Nat.{ℕ, _<_}
 use native.Mathlib.Omega.{arith}
 use lib.Dec.{eqb}
 use lib.ListN.{getD}
-use borrow.Author.Tests.{eq-eqb, ne-eqb, eqb-true, eqb-false, not-true, not-false}
+use borrow.Author.Tests.{ne-eqb, eqb-true, eqb-false, not-true, not-false}
 use Rattle.lists.specs.Tests.{_and_, every}
 use Rattle.lists.proofs.Cases.{on, on-same, clash, and-left, and-right, and-both, or-true, or-false-left, or-false-right}
 use Rattle.lists.proofs.Count.{find}
@@ -17,7 +17,6 @@ use Rattle.walks.proofs.Walks.{reach-trans, reach-map}
 use Rattle.graph.specs.Reach.{Edge}
 use Rattle.graph.specs.Post.{Reached}
 use Rattle.steps.proofs.Together.{reach-swap}
-use Rattle.cut.specs.Cut.{Parted}
 use Rattle.cut.specs.State.{avoiding, stopping, isMate, FirstMate, isKept, Mirrored, CutIn, Decides}
 
 other : (x v : ℕ) → (x ≡ v → ⊥) → not (eqb x v) ≡ true

@@ -9,8 +9,8 @@ use lib.Dec.{eqb}
 use lib.ListN.{length, getD, set, length-set}
 use lib.Seq.{getD-set-same, getD-set-other}
 use borrow.Author.Tests.{eq-eqb, ne-eqb, not-true, not-false}
-use Rattle.lists.specs.Tests.{_and_, every}
-use Rattle.lists.proofs.Cases.{on, on-same, on-below, and-false-left}
+use Rattle.lists.specs.Tests.{_and_}
+use Rattle.lists.proofs.Cases.{on, on-same}
 use Rattle.walks.proofs.Walks.{reach-map}
 use Rattle.layout.specs.Layout.{vertexLimit}
 use Rattle.graph.specs.Reach.{matrix}
