@@ -114,6 +114,11 @@ pub extern "C" fn timed_get_bfs(t: &[u32], v: VertexIndex, out: &mut [u32]) -> R
 }
 
 #[no_mangle]
+pub extern "C" fn timed_find_cut_vertices(t: &[u32], out: &mut [u32]) -> Reply {
+    layout::reply_of(cut::find_cut_vertices(t, out))
+}
+
+#[no_mangle]
 pub extern "C" fn timed_random_walk(
     t: &[u32],
     start: VertexIndex,
