@@ -3,7 +3,7 @@ use mathlib.Core.Path.{_≡_, refl, sym, ap, _∙_, subst}
 use mathlib.Core.Bool.{Bool, true, false, not}
 use mathlib.Core.Logic.{_⊎_, inl, inr, ⊎-elim}
 use mathlib.Core.List.{List}
-use Prim.Native.Nat.{ℕ, _<_}
+use Prim.Native.Nat.{ℕ, _≤_, _<_}
 use native.Mathlib.Omega.{arith}
 use lib.Dec.{eqb}
 use lib.ListN.{getD}
@@ -100,18 +100,15 @@ module _ (E : ℕ → ℕ → Bool) (n v : ℕ) where
         ⊎-elim (λ (p : Reach (Edge (avoiding E v) n) x y). absurd (apart p)) (λ (p : (u : ℕ) × (u < n) × (isMate E v u ≡ true) × Reach (Edge (avoiding E v) n) x u). p) (meets nx w)
 
     -- without a mate, v is not cut
-    pub cut-none : {r : ℕ} → FirstMate E n v r → r ≡ n → Decides false (CutIn E n v)
-    cut-none f e = record {
+    pub cut-none : {r : ℕ} → FirstMate E n v r → n ≤ r → Decides false (CutIn E n v)
+    cut-none f l = record {
       yes = λ c. clash c refl;
       no = λ _ c.
           let p = mate-met (c .a-other) (c .linked) (c .parted) in
-          clash (p .2) (f .none (p .0) (rw e (p .1)));
+          clash (p .2) (f .none (p .0) (omega (arith, p .1)));
     }
 
-    module _ {a : ℕ} (f : FirstMate E n v a) (s : a ≡ n → ⊥) (lv : v < n) {marks : List ℕ} (m : Reached (stopping E v) n a marks) where
-      a-below : a < n
-      a-below = omega (arith, f .within)
-
+    module _ {a : ℕ} (f : FirstMate E n v a) (a-below : a < n) (lv : v < n) {marks : List ℕ} (m : Reached (stopping E v) n a marks) where
       -- a marked mate is not out of reach
       marked-near : (u : ℕ) → u < n → isMate E v u ≡ true → getD marks u 0 ≡ 1 → (Reach (Edge (avoiding E v) n) a u → ⊥) → ⊥
       marked-near u l p e h =

@@ -2,20 +2,21 @@
 use mathlib.Core.Path.{_≡_, refl, sym, ap, _∙_, subst}
 use mathlib.Core.Bool.{Bool, true, false, not}
 use mathlib.Core.List.{List, [], _∷_}
-use Prim.Native.Nat.{ℕ, zero, suc, _+_, _*_, _≤_, _<_}
-use native.Mathlib.Nat.{not-suc-le-zero, lt-irrefl, le-antisymm}
+use Prim.Native.Nat.{ℕ, zero, suc, _+_, _≤_, _<_}
+use native.Mathlib.Nat.{not-suc-le-zero, le-of-suc-le-suc, lt-irrefl, le-antisymm}
 use native.Mathlib.Omega.{arith}
 use lib.Dec.{eqb}
 use lib.ListN.{length, getD, set, length-set}
-use lib.Seq.{getD-set-same, getD-set-other}
+use lib.Seq.{getD-set-same, getD-set-other, ext-getD}
 use borrow.Author.Tests.{eq-eqb, ne-eqb, not-true, not-false}
 use Rattle.lists.specs.Tests.{_and_}
-use Rattle.lists.proofs.Cases.{on, on-same}
+use Rattle.lists.proofs.Cases.{on-same, on-below}
 use Rattle.walks.proofs.Walks.{reach-map}
 use Rattle.layout.specs.Layout.{vertexLimit}
 use Rattle.graph.specs.Reach.{matrix}
 use Rattle.graph.specs.Post.{Reached}
-use Rattle.cut.specs.State.{stopping, isMate, FirstMate, isKept, Stopped, CutIn, Decides, Judged}
+use Rattle.steps.specs.Matrices.{cell}
+use Rattle.cut.specs.State.{stopping, isMate, FirstMate, isKept, Cleared, CutIn, Decides, Judged}
 
 -- ---- mates: r is what `is_mate` found
 
@@ -63,44 +64,71 @@ module _ (E : ℕ → ℕ → Bool) (v : ℕ) where
 
 -- ---- the matrix where nothing leads on from v
 
-zero-at : (w : List ℕ) (k : ℕ) → getD (set w k 0) k 0 ≡ 0
+zero-at : (p : List ℕ) (k : ℕ) → getD (set p k 0) k 0 ≡ 0
 zero-at [] k = refl
-zero-at (x ∷ w) zero = refl
-zero-at (x ∷ w) (suc k) = zero-at w k
+zero-at (x ∷ p) zero = refl
+zero-at (x ∷ p) (suc k) = zero-at p k
 
--- the first j of v's row are 0, and all else is as it was
-pub record Clearing (v : ℕ) (m : List ℕ) (j : ℕ) (p : List ℕ) : Type 0 where
-  pub within : j ≤ vertexLimit
-  pub gone : (i : ℕ) → i < j → getD p (v * vertexLimit + i) 0 ≡ 0
-  pub same : (k : ℕ) → ((i : ℕ) → i < j → k ≡ v * vertexLimit + i → ⊥) → getD p k 0 ≡ getD m k 0
+pub cleared-none : (v : ℕ) (m : List ℕ) → Cleared v 0 m m
+cleared-none v m = record { long = refl; gone = λ i l. absurd (not-suc-le-zero l); same = λ k h. refl }
 
-pub clearing-none : (v : ℕ) (m : List ℕ) → Clearing v m 0 m
-clearing-none v m = record { within = omega arith; gone = λ i l. absurd (not-suc-le-zero l); same = λ k h. refl }
+pub cleared-more : {v j : ℕ} {m p : List ℕ} → Cleared v j m p → (next : List ℕ) → next ≡ set p (cell v j) 0 → Cleared v (j + 1) m next
+cleared-more {v} {j} {m} {p} c next e = record {
+  long = rw (e, length-set) (c .long);
+  gone = λ i b. rw e (on-same i j
+      (λ s. rw s (zero-at p (cell v j)))
+      (λ s. getD-set-other p (cell v j) (cell v i) 0 0 (λ q. s (omega arith)) ∙ c .gone i (omega arith)));
+  same = λ k h. rw e (getD-set-other p (cell v j) k 0 0 (h j (omega arith)) ∙ c .same k (λ i b. h i (omega arith)));
+}
 
-module _ {v : ℕ} {m : List ℕ} {j : ℕ} {p : List ℕ} (c : Clearing v m j p) where
-  pub clearing-more : (next : List ℕ) → j < vertexLimit → next ≡ set p (v * vertexLimit + j) 0 → Clearing v m (j + 1) next
-  clearing-more next l e = record {
-    within = omega arith;
-    gone = λ i b. rw e (on-same i j
-        (λ s. rw s (zero-at p (v * vertexLimit + j)))
-        (λ s. getD-set-other p (v * vertexLimit + j) (v * vertexLimit + i) 0 0 (λ q. s (omega arith)) ∙ c .gone i (omega arith)));
-    same = λ k h. rw e (getD-set-other p (v * vertexLimit + j) k 0 0 (h j (omega arith)) ∙ c .same k (λ i b. h i (omega arith)));
+pub cleared-end : {v j : ℕ} {m p : List ℕ} → Cleared v j m p → j ≤ vertexLimit → vertexLimit ≤ j → Cleared v vertexLimit m p
+cleared-end {v} {j} {m} {p} c a b = subst (λ (i : ℕ). Cleared v i m p) (le-antisymm a b) c
+
+-- the matrix lent is the same
+pub cleared-of : {v : ℕ} {m rest p : List ℕ} → Cleared v vertexLimit rest p → rest ≡ m → Cleared v vertexLimit m p
+cleared-of {v} {m} {rest} {p} c e = subst (λ (q : List ℕ). Cleared v vertexLimit q p) e c
+
+module _ {v : ℕ} {m p : List ℕ} (c : Cleared v vertexLimit m p) where
+  stopped : (i k : ℕ) → i < vertexLimit → k < vertexLimit → matrix p i k ≡ stopping (matrix m) v i k
+  unfolding stopping _and_
+  stopped i k li lk =
+      on-same i v
+      (λ s. rw (s, eq-eqb v v refl, c .gone k lk))
+      (λ s. rw (ne-eqb i v s, c .same (cell i k) (λ b lb q. s (omega arith))))
+
+  -- the search in that matrix
+  pub reached-past : (n a : ℕ) (marks : List ℕ) → n ≤ vertexLimit → Reached (matrix p) n a marks → Reached (stopping (matrix m) v) n a marks
+  reached-past n a marks le r = record {
+    long = r .long;
+    yes = λ j l w. r .yes j l (reach-map (λ x y e. (e .0, e .1, stopped x y (omega (arith, e .0)) (omega (arith, e .1)) ∙ e .2)) w);
+    no = λ j l h. r .no j l (λ w. h (reach-map (λ x y e. (e .0, e .1, sym (stopped x y (omega (arith, e .0)) (omega (arith, e .1))) ∙ e .2)) w));
   }
 
-  pub clearing-end : vertexLimit ≤ j → Stopped v m p
-  unfolding stopping _and_
-  clearing-end l i k li lk =
-      on-same i v
-      (λ s. rw (s, eq-eqb v v refl, c .gone k (omega (arith, c .within))))
-      (λ s. rw (ne-eqb i v s, c .same (i * vertexLimit + k) (λ b lb q. s (omega arith))))
+-- the row is put back up to place j
+pub record Restored (v j : ℕ) (m p : List ℕ) : Type 0 where
+  pub long : length p ≡ length m
+  pub same : (k : ℕ) → ((i : ℕ) → j ≤ i → i < vertexLimit → k ≡ cell v i → ⊥) → getD p k 0 ≡ getD m k 0
 
--- the search in that matrix
-pub reached-past : (m p : List ℕ) (n v a : ℕ) (marks : List ℕ) → n ≤ vertexLimit → Stopped v m p → Reached (matrix p) n a marks → Reached (stopping (matrix m) v) n a marks
-reached-past m p n v a marks le s r = record {
-  long = r .long;
-  yes = λ j l w. r .yes j l (reach-map (λ x y e. (e .0, e .1, s x y (omega (arith, e .0)) (omega (arith, e .1)) ∙ e .2)) w);
-  no = λ j l h. r .no j l (λ w. h (reach-map (λ x y e. (e .0, e .1, sym (s x y (omega (arith, e .0)) (omega (arith, e .1))) ∙ e .2)) w));
+pub restored-none : {v : ℕ} {m p : List ℕ} → Cleared v vertexLimit m p → Restored v 0 m p
+restored-none c = record { long = c .long; same = λ k h. c .same k (λ i l. h i (omega arith) l) }
+
+pub restored-more : {v j : ℕ} {m p : List ℕ} → Restored v j m p → (next : List ℕ) → next ≡ set p (cell v j) (getD m (cell v j) 0) → Restored v (j + 1) m next
+restored-more {v} {j} {m} {p} r next e = record {
+  long = rw (e, length-set) (r .long);
+  same = λ k h. rw e (on-same k (cell v j)
+      (λ s. on-below k (length p)
+      (λ l. rw s (getD-set-same p (cell v j) (getD m (cell v j) 0) 0 (rw s at l)))
+      (λ l. beyond (set p (cell v j) (getD m (cell v j) 0)) k (rw length-set l) ∙ sym (beyond m k (omega (arith, r .long)))))
+      (λ s. getD-set-other p (cell v j) k (getD m (cell v j) 0) 0 s ∙ r .same k (λ i a b q. on-same i j (λ w. s (rw w at q)) (λ w. h i (omega arith) b q))));
 }
+  where
+    beyond : (l : List ℕ) (i : ℕ) → length l ≤ i → getD l i 0 ≡ 0
+    beyond [] i h = refl
+    beyond (x ∷ l) zero h = absurd (not-suc-le-zero h)
+    beyond (x ∷ l) (suc i) h = beyond l i (le-of-suc-le-suc h)
+
+pub restored-end : {v j : ℕ} {m p : List ℕ} → Restored v j m p → vertexLimit ≤ j → p ≡ m
+restored-end {v} {j} {m} {p} r l = ext-getD 0 p m (r .long) (λ k h. r .same k (λ i a b q. lt-irrefl i (omega arith)))
 
 -- ---- each record
 

@@ -67,9 +67,11 @@ pub record FirstMate (E : ℕ → ℕ → Bool) (n v r : ℕ) : Type 0 where
 unfoldable pub isKept : (ℕ → ℕ → Bool) → ℕ → List ℕ → ℕ → Bool
 isKept E v marks j = not (isMate E v j) || eqb (getD marks j 0) 1
 
--- the matrix p is the matrix m, where nothing leads on from v
-abbrev pub Stopped : ℕ → List ℕ → List ℕ → Type 0
-Stopped v m p = (i j : ℕ) → i < vertexLimit → j < vertexLimit → matrix p i j ≡ stopping (matrix m) v i j
+-- p is m, but for the first j marks of what leads on from v: they are 0
+pub record Cleared (v j : ℕ) (m p : List ℕ) : Type 0 where
+  pub long : length p ≡ length m
+  pub gone : (i : ℕ) → i < j → getD p (cell v i) 0 ≡ 0
+  pub same : (k : ℕ) → ((i : ℕ) → i < j → k ≡ cell v i → ⊥) → getD p k 0 ≡ getD m k 0
 
 -- what leads from i to j leads from j to i
 abbrev pub Mirrored : (ℕ → ℕ → Bool) → ℕ → Type 0

@@ -12,7 +12,7 @@ ghost use Rattle.graph.specs.Reach.{matrix};
 ghost use Rattle.graph.specs.Post.{Reached};
 ghost use Rattle.steps.specs.Matrices.{Holds};
 ghost use Rattle.cut.specs.Cut.{recordOf, cutVerticesResult};
-ghost use Rattle.cut.specs.State.{togetherBetween, Gathered, Places, withRow, withPairs, stopping, isMate, FirstMate, isKept, Stopped, Mirrored, CutIn, Decides, Judged};
+ghost use Rattle.cut.specs.State.{togetherBetween, Gathered, Places, withRow, withPairs, stopping, isMate, FirstMate, isKept, Cleared, Mirrored, CutIn, Decides, Judged};
 use layout::Answer;
 use layout::Found;
 use layout::VertexIndex;
@@ -130,25 +130,44 @@ fn first_mate(m: &[u8; 65536], n: usize, v: usize) -> usize
 }
 
 // Nothing leads on from v any more.
-fn clear_row(m: &mut [u8; 65536], v: usize)
+fn clear_row(rest: &mut [u8; 65536], v: usize)
     requires { ⌜ v < vertexLimit ⌝ }
-    ensures { λ _. ⌜ Stopped v (now (m .entry)) (now (m .exit)) ⌝ }
+    ensures { λ _. ⌜ Cleared v vertexLimit (now (rest .entry)) (now (rest .exit)) ⌝ }
 {
     let mut j = 0;
     while j < layout::VERTEX_LIMIT {
-        m[v * layout::VERTEX_LIMIT + j] = 0;
+        rest[v * layout::VERTEX_LIMIT + j] = 0;
         j += 1;
     }
 }
 
-// Marks what is reached from a, where nothing leads on from v.
-fn reach_past(m: &[u8; 65536], n: usize, v: usize, a: usize, marks: &mut [u8; 256])
-    requires { ⌜ (n ≤ vertexLimit) × (v < n) × (a < n) ⌝ }
-    ensures { λ _. ⌜ Reached (stopping (matrix (now (m .entry))) v) n a (now (marks .exit)) ⌝ }
+// What led on from v does so again.
+fn restore_row(m: &[u8; 65536], rest: &mut [u8; 65536], v: usize)
+    requires { ⌜ (v < vertexLimit) × Cleared v vertexLimit (now m) (now rest) ⌝ }
+    ensures { λ _. ⌜ now (rest .exit) ≡ now (m .entry) ⌝ }
 {
-    let mut rest = *m;
-    clear_row(&mut rest, v);
-    graph::reach_from(&rest, n, a, marks);
+    let mut j = 0;
+    while j < layout::VERTEX_LIMIT {
+        rest[v * layout::VERTEX_LIMIT + j] = m[v * layout::VERTEX_LIMIT + j];
+        j += 1;
+    }
+}
+
+// Marks what is reached from a, where nothing leads on from v. `rest` is a copy of m, lent for that.
+fn reach_past(
+    m: &[u8; 65536],
+    rest: &mut [u8; 65536],
+    n: usize,
+    v: usize,
+    a: usize,
+    marks: &mut [u8; 256],
+)
+    requires { ⌜ (n ≤ vertexLimit) × (v < n) × (a < n) × (now rest ≡ now m) ⌝ }
+    ensures { λ _. ⌜ Reached (stopping (matrix (now (m .entry))) v) n a (now (marks .exit)) × (now (rest .exit) ≡ now (m .entry)) ⌝ }
+{
+    clear_row(rest, v);
+    graph::reach_from(rest, n, a, marks);
+    restore_row(m, rest, v);
 }
 
 // Whether j is marked, if it shares a list with v.
@@ -177,18 +196,26 @@ fn all_kept(m: &[u8; 65536], n: usize, v: usize, marks: &[u8; 256]) -> bool
     true
 }
 
-// Whether v is cut: of those that share a list with it, the first does not reach them all without it.
-fn is_cut(m: &[u8; 65536], n: usize, v: usize) -> bool
-    requires { ⌜ (n ≤ vertexLimit) × (v < n) × Mirrored (matrix (now m)) n ⌝ }
-    ensures { λ r. ⌜ Decides r (CutIn (matrix (now (m .entry))) n v) ⌝ }
+// Whether v parts its first mate a from another of its mates.
+fn parts_mates(m: &[u8; 65536], rest: &mut [u8; 65536], n: usize, v: usize, a: usize) -> bool
+    requires { ⌜ (n ≤ vertexLimit) × (v < n) × (a < n) × Mirrored (matrix (now m)) n × FirstMate (matrix (now m)) n v a × (now rest ≡ now m) ⌝ }
+    ensures { λ r. ⌜ Decides r (CutIn (matrix (now (m .entry))) n v) × (now (rest .exit) ≡ now (m .entry)) ⌝ }
+{
+    let mut marks = [0u8; 256];
+    reach_past(m, rest, n, v, a, &mut marks);
+    !all_kept(m, n, v, &marks)
+}
+
+// Whether v is cut.
+fn is_cut(m: &[u8; 65536], rest: &mut [u8; 65536], n: usize, v: usize) -> bool
+    requires { ⌜ (n ≤ vertexLimit) × (v < n) × Mirrored (matrix (now m)) n × (now rest ≡ now m) ⌝ }
+    ensures { λ r. ⌜ Decides r (CutIn (matrix (now (m .entry))) n v) × (now (rest .exit) ≡ now (m .entry)) ⌝ }
 {
     let a = first_mate(m, n, v);
-    if a == n {
-        return false;
+    if a < n {
+        return parts_mates(m, rest, n, v, a);
     }
-    let mut marks = [0u8; 256];
-    reach_past(m, n, v, a, &mut marks);
-    !all_kept(m, n, v, &marks)
+    false
 }
 
 // Judges each of the n records.
@@ -196,11 +223,20 @@ fn judge(m: &[u8; 65536], n: usize, cuts: &mut [bool; 256])
     requires { ⌜ (n ≤ vertexLimit) × Mirrored (matrix (now m)) n × (length (now cuts) ≡ vertexLimit) ⌝ }
     ensures { λ _. ⌜ Judged (matrix (now (m .entry))) n n (now (cuts .exit)) ⌝ }
 {
+    let mut rest = *m;
     let mut v = 0;
     while v < n {
-        cuts[v] = is_cut(m, n, v);
+        cuts[v] = is_cut(m, &mut rest, n, v);
         v += 1;
     }
+}
+
+// The matrix that is searched: all members of a list are linked, so that they still are when one of them is taken away.
+fn searched_matrix(t: &[u32], m: &mut [u8; 65536])
+    requires { ⌜ Formed limit (now t) ⌝ }
+    ensures { λ _. ⌜ Holds (togetherBetween (read limit (now (t .entry)))) (vertexCount (now (t .entry))) (now (m .exit)) ⌝ }
+{
+    together_matrix(t, m);
 }
 
 fn list_cuts(t: &[u32], out: &mut [u32]) -> Answer
@@ -209,7 +245,7 @@ fn list_cuts(t: &[u32], out: &mut [u32]) -> Answer
 {
     let n = layout::vertex_count(t);
     let mut m = [0u8; 65536];
-    together_matrix(t, &mut m);
+    searched_matrix(t, &mut m);
     let mut cuts = [false; 256];
     judge(&m, n, &mut cuts);
     marks::list_marked(t, &cuts, out)

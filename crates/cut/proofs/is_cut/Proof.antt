@@ -1,5 +1,5 @@
 -- `cut::is_cut` meets its contract. Assumes nothing.
-use Rattle.cut.proofs.Parting.{cut-none, cut-found}
+use Rattle.cut.proofs.Parting.{cut-none}
 use borrow.Author.Needs.{needs}
 use Rattle.cut.proofs.is_cut.Statement.{statement}
 use Rattle.cut.proofs.is_cut.Tie as tie
@@ -7,19 +7,14 @@ use Rattle.cut.proofs.is_cut.Tie as tie
 first-mate-requires : tie.Need-first-mate-requires
 first-mate-requires c κs = search needs
 
+parts-mates-requires : tie.Need-parts-mates-requires
+parts-mates-requires c κs = search needs
+
 returns : tie.Need-returns
-returns c = search cut-none
-
-reach-past-requires : tie.Need-reach-past-requires
-reach-past-requires c κs = search needs
-
-all-kept-requires : tie.Need-all-kept-requires
-all-kept-requires c κs = search needs
+returns c = search needs
 
 returns-2 : tie.Need-returns-2
-returns-2 c = search cut-found
+returns-2 c = (search cut-none, search needs)
 
 pub is-cut-spec : {M : Type 1} → statement M
-is-cut-spec =
-    tie.close
-    (tie.spec first-mate-requires returns reach-past-requires all-kept-requires returns-2)
+is-cut-spec = tie.close (tie.spec first-mate-requires parts-mates-requires returns returns-2)

@@ -1,4 +1,5 @@
--- `cut::judge` meets its contract: the records before v are judged. Assumes nothing.
+-- `cut::judge` meets its contract: the records before v are judged, and the copy is whole. Assumes nothing.
+use mathlib.Core.Path.{_≡_, refl}
 use Prim.Native.Nat.{_≤_, _-_}
 use Rattle.graph.specs.Reach.{matrix}
 use Rattle.cut.specs.State.{Judged}
@@ -8,13 +9,13 @@ use Rattle.cut.proofs.judge.Statement.{statement}
 use Rattle.cut.proofs.judge.Tie as tie
 
 abbrev Inv-loop : tie.InvT-loop
-Inv-loop m n cuts₀ v₀ cuts v = (v ≤ n) × Judged (matrix m) n v cuts
+Inv-loop m n cuts₀ rest₀ v₀ cuts rest v = (v ≤ n) × Judged (matrix m) n v cuts × (rest ≡ m)
 
 abbrev μ-loop : tie.MeasureT-loop
-μ-loop m n cuts₀ v₀ cuts v = n - v
+μ-loop m n cuts₀ rest₀ v₀ cuts rest v = n - v
 
 loop-holds : tie.Need-loop-holds Inv-loop μ-loop
-loop-holds c = (search needs, search judged-none)
+loop-holds c = (search needs, search judged-none, refl)
 
 is-cut-requires : tie.Need-is-cut-requires Inv-loop μ-loop
 is-cut-requires c κs = search needs
@@ -29,7 +30,7 @@ loop-less : tie.Need-loop-less Inv-loop μ-loop
 loop-less c = search needs
 
 loop-again : tie.Need-loop-again Inv-loop μ-loop
-loop-again c = (search needs, search judged-more)
+loop-again c = (search needs, search judged-more, search needs)
 
 returns : tie.Need-returns Inv-loop μ-loop
 returns c = search judged-end

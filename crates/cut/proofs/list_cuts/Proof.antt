@@ -9,8 +9,8 @@ use Rattle.cut.proofs.list_cuts.Tie as tie
 vertex-count-requires : tie.Need-vertex-count-requires
 vertex-count-requires c κs = search needs
 
-together-matrix-requires : tie.Need-together-matrix-requires
-together-matrix-requires c κs = search needs
+searched-matrix-requires : tie.Need-searched-matrix-requires
+searched-matrix-requires c κs = search needs
 
 judge-requires : tie.Need-judge-requires
 judge-requires c κs = (search needs, search mirrored-by, length-replicate {A = Bool} 256 false)
@@ -29,7 +29,7 @@ list-cuts-spec =
     tie.close
     (tie.spec
     vertex-count-requires
-    together-matrix-requires
+    searched-matrix-requires
     judge-requires
     list-marked-requires
     same-length

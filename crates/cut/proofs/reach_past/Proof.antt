@@ -1,5 +1,5 @@
 -- `cut::reach_past` meets its contract. Assumes nothing.
-use Rattle.cut.proofs.Searching.{reached-past}
+use Rattle.cut.proofs.Searching.{cleared-of, reached-past}
 use borrow.Author.Needs.{needs}
 use Rattle.cut.proofs.reach_past.Statement.{statement}
 use Rattle.cut.proofs.reach_past.Tie as tie
@@ -10,8 +10,12 @@ clear-row-requires c κs = search needs
 reach-from-requires : tie.Need-reach-from-requires
 reach-from-requires c κs = search needs
 
+restore-row-requires : tie.Need-restore-row-requires
+restore-row-requires c κs = (search needs, search cleared-of)
+
 returns : tie.Need-returns
-returns c = search reached-past
+returns c = (search (reached-past, cleared-of), search needs)
 
 pub reach-past-spec : {M : Type 1} → statement M
-reach-past-spec = tie.close (tie.spec clear-row-requires reach-from-requires returns)
+reach-past-spec =
+    tie.close (tie.spec clear-row-requires reach-from-requires restore-row-requires returns)
