@@ -94,7 +94,7 @@ fn gather(t: &[u32], m: &mut [u8; 65536])
 }
 
 // The matrix of co-membership.
-pub fn together_matrix(t: &[u32], m: &mut [u8; 65536])
+fn together_matrix(t: &[u32], m: &mut [u8; 65536])
     requires { ⌜ Formed limit (now t) ⌝ }
     ensures { λ _. ⌜ Holds (togetherBetween (read limit (now (t .entry)))) (vertexCount (now (t .entry))) (now (m .exit)) ⌝ }
 {
