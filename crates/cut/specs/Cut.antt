@@ -15,7 +15,7 @@ use Rattle.graph.specs.Bfs.{bfs}
 use Rattle.edits.specs.Edits.{removeVertex}
 use Rattle.steps.specs.Matrices.{together, TogetherIn, between}
 
--- two others than v that a walk along R links, and no walk along S
+-- two other than v: a walk along R links them, and no walk along S does
 pub record Parted (R S : ℕ → ℕ → Type 0) (v : ℕ) : Type 0 where
   pub a : ℕ
   pub b : ℕ
@@ -28,8 +28,9 @@ pub record Parted (R S : ℕ → ℕ → Type 0) (v : ℕ) : Type 0 where
 abbrev pub Cut : Table → ℕ → Type 0
 Cut t v = Parted (TogetherIn t) (TogetherIn (removeVertex v t)) v
 
--- ---- the same, computed
+-- ---- the same, computed: `listed-cut` and `cut-listed` (proofs/Cuts.antt) say that it is the same
 
+-- the place that a search found
 abbrev pub place : Found → ℕ
 place (At i) = i
 place Nothing = 0
@@ -42,7 +43,7 @@ recordOf live x = place (position x live)
 unfoldable pub isLinked : Table → ℕ → ℕ → Bool
 isLinked t a b = memb (recordOf (liveVertices t) b) (bfs (between t (together t)) (length (liveVertices t)) (recordOf (liveVertices t) a))
 
--- a and b are linked, and no longer are after v is removed
+-- v parts a and b: they are linked, and no longer are after v is removed
 unfoldable pub parts : Table → ℕ → ℕ → ℕ → Bool
 parts t v a b = isLinked t a b and not (isLinked (removeVertex v t) a b)
 
@@ -50,11 +51,11 @@ parts t v a b = isLinked t a b and not (isLinked (removeVertex v t) a b)
 abbrev pub others : Table → ℕ → List ℕ
 others t v = liveVertices (removeVertex v t)
 
--- a and some other vertex
+-- v parts a from some other vertex
 unfoldable pub partsSome : Table → ℕ → ℕ → Bool
 partsSome t v a = any (parts t v a) (others t v)
 
--- some two other vertices
+-- v parts some two other vertices
 unfoldable pub isCut : Table → ℕ → Bool
 isCut t v = any (partsSome t v) (others t v)
 

@@ -218,7 +218,7 @@ fn is_cut(m: &[u8; 65536], rest: &mut [u8; 65536], n: usize, v: usize) -> bool
     false
 }
 
-// Judges each of the n records.
+// Marks which of the n records are cut.
 fn judge(m: &[u8; 65536], n: usize, cuts: &mut [bool; 256])
     requires { ⌜ (n ≤ vertexLimit) × Mirrored (matrix (now m)) n × (length (now cuts) ≡ vertexLimit) ⌝ }
     ensures { λ _. ⌜ Judged (matrix (now (m .entry))) n n (now (cuts .exit)) ⌝ }
