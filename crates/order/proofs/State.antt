@@ -11,10 +11,11 @@ use lib.Seq.{append-snoc}
 use borrow.Author.Tests.{eqb-true, eqb-false}
 use Rattle.graph.proofs.Held.{held-none, held-as, held-short, held-room, held-more}
 use Rattle.graph.specs.Held.{Held}
+use Rattle.graph.specs.Reach.{Edge}
 use Rattle.lists.proofs.Cases.{on, on-same}
 use Rattle.lists.proofs.Count.{count-ext, count-flip}
 use Rattle.lists.proofs.Memb.{memb-snoc-self, memb-snoc-other}
-use Rattle.lists.specs.Lists.{memb}
+use Rattle.lists.specs.Lists.{memb, isBelow}
 use Rattle.lists.specs.Tests.{count, bit}
 use Rattle.order.proofs.Greedy.{avail-new, next-avail, rest-more, rest-end, greedy-sorts, greedy-fails}
 use Rattle.order.proofs.Least.{least-ext}
@@ -82,7 +83,7 @@ module _ {E : ℕ → ℕ → Bool} {n : ℕ} {m d o : List ℕ} {t v : ℕ} (h 
       let g : p ≡ greedy E n = sym (append-nil p) ∙ ap (λ (r : List ℕ). p ++ r) (sym (rest-end E n (n - t) p (omega (arith, h .turn)))) ∙ h .left in
       let len : t ≡ length (greedy E n) = h .held .count ∙ ap length g in
       record {
-        done = λ e. let s : t ≡ n = eqb-true t n e in subst (λ (w : List ℕ). Smallest E n w) (sym g ∙ ap (λ (k : ℕ). take k o) s) (greedy-sorts E n (sym len ∙ s));
+        done = λ e. let s : t ≡ n = eqb-true t n e in subst (λ (w : List ℕ). Smallest (isBelow n) (Edge E n) w) (sym g ∙ ap (λ (k : ℕ). take k o) s) (greedy-sorts E n (sym len ∙ s));
         refused = λ e.
             let s : t ≡ n → ⊥ = eqb-false t n e in
             let b : t ≤ n = held-short (h .held) in

@@ -7,6 +7,7 @@ use lib.Dec.{eqb}
 use lib.ListN.{length, getD, take}
 use Rattle.graph.specs.Held.{Held}
 use Rattle.graph.specs.Reach.{Edge}
+use Rattle.lists.specs.Lists.{isBelow}
 use Rattle.lists.specs.Tests.{count, bit}
 use Rattle.order.specs.Greedy.{waits, next, rest, greedy}
 use Rattle.order.specs.Sort.{Smallest}
@@ -31,7 +32,7 @@ pub record Needs (E : ℕ → ℕ → Bool) (n : ℕ) (d : List ℕ) (p : List �
 
 -- the contract of the sort
 pub record Sorted (E : ℕ → ℕ → Bool) (n : ℕ) (r : Bool) (o : List ℕ) : Type 0 where
-  pub done : r ≡ true → Smallest E n (take n o)
+  pub done : r ≡ true → Smallest (isBelow n) (Edge E n) (take n o)
   pub refused : r ≡ false → Closed (Edge E n)
 
 -- what the sort's loop holds: what is placed and what is left of the sort make the whole, and v is next
