@@ -145,6 +145,12 @@ module _ (E : ℕ → ℕ → Bool) (n : ℕ) where
   unfolding greedy
   greedy-ended = rest-ended n [] placed-none (omega arith)
 
+  pub greedy-below : Below n (greedy E n)
+  greedy-below = greedy-ended .0 .below
+
+  pub greedy-short : length (greedy E n) ≤ n
+  greedy-short = pigeon (greedy E n) n (greedy-ended .0 .once) greedy-below
+
   -- back along steps from numbers that are not placed to such numbers, till one comes again
   chase : (p : List ℕ) → n ≤ next E n p → (f x : ℕ) (w : List ℕ) → memb x p ≡ false → Distinct (x ∷ w) → Below n (x ∷ w)
       → ((y : ℕ) → memb y (x ∷ w) ≡ true → Reach (Edge E n) x y) → n < f + length (x ∷ w) → Closed (Edge E n)

@@ -26,6 +26,17 @@ lex-antisym (x ∷ l) (y ∷ k) a b =
     a
 
 module _ {live : ℕ → Bool} {R : ℕ → ℕ → Type 0} where
+  -- the same of a relation that holds of the same
+  module _ {S : ℕ → ℕ → Type 0} (to : (x y : ℕ) → R x y → S x y) (from : (x y : ℕ) → S x y → R x y) where
+    forward-as : {l : List ℕ} → Forward live R l → Forward live S l
+    forward-as {l} o = record { once = o .once; same = o .same; forward = λ i j hi hj e. o .forward i j hi hj (from (getD l i 0) (getD l j 0) e) }
+
+    forward-of : {l : List ℕ} → Forward live S l → Forward live R l
+    forward-of {l} o = record { once = o .once; same = o .same; forward = λ i j hi hj e. o .forward i j hi hj (to (getD l i 0) (getD l j 0) e) }
+
+    pub smallest-as : {l : List ℕ} → Smallest live R l → Smallest live S l
+    smallest-as {l} s = record { order = forward-as (s .order); least = λ k o. s .least k (forward-of o) }
+
   -- there is one sort at most
   pub smallest-unique : {l k : List ℕ} → Smallest live R l → Smallest live R k → l ≡ k
   smallest-unique {l} {k} a b = lex-antisym l k (a .least k (b .order)) (b .least l (a .order))

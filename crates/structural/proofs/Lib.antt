@@ -1,0 +1,3 @@
+pub mod SortingRecords
+pub mod Sorting
+pub mod SortingAnswers
