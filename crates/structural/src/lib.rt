@@ -24,10 +24,12 @@ fn sorted(t: &[u32], out: &mut [u32]) -> Answer
     ensures { λ r. ⌜ result r (now (out .exit)) ≡ sortResult (now (out .entry)) (read limit (now (t .entry))) ⌝ }
 {
     let mut order = [0u32; 256];
-    if !sort_records(t, &mut order) {
+    let found = sort_records(t, &mut order);
+    let n = layout::vertex_count(t);
+    if !found {
         return Answer::ClosedWalk;
     }
-    steps::list_records(t, &order, layout::vertex_count(t), out)
+    steps::list_records(t, &order, n, out)
 }
 
 // Lists the live vertices in the smallest order in which every step goes forward.

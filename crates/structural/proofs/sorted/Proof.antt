@@ -7,11 +7,11 @@ use Rattle.structural.proofs.sorted.Tie as tie
 sort-records-requires : tie.Need-sort-records-requires
 sort-records-requires c κs = search needs
 
-returns : tie.Need-returns
-returns c = search sort-refused
-
 vertex-count-requires : tie.Need-vertex-count-requires
 vertex-count-requires c κs = search needs
+
+returns : tie.Need-returns
+returns c = search sort-refused
 
 list-records-requires : tie.Need-list-records-requires
 list-records-requires c κs = (search needs, search sort-ordered)
@@ -27,8 +27,8 @@ sorted-spec =
     tie.close
     (tie.spec
     sort-records-requires
-    returns
     vertex-count-requires
+    returns
     list-records-requires
     same-length
     returns-2)
