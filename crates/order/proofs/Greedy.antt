@@ -1,5 +1,4 @@
--- The sort as it is made: of the numbers that are not placed and to which no such number has a step, the smallest is placed next.
--- Assumes nothing.
+-- The sort as it is made has every number exactly where no walk is closed, and is then the smallest order. Assumes nothing.
 use mathlib.Core.Path.{_≡_, refl, sym, ap, _∙_, subst}
 use mathlib.Core.Bool.{Bool, true, false, _&&_, _||_, not}
 use mathlib.Core.Logic.{inl, inr, ⊎-elim}

@@ -11,19 +11,21 @@ use lib.ListN.{length, getD, take, set, length-set, length-append, replicate, le
 use lib.Seq.{append-snoc, take-suc-set, getD-set-same, getD-set-other}
 use mir.Syntax.{w64}
 use mir.Val.{Fits}
-use borrow.Author.Tests.{eqb-true, eqb-false, ne-eqb}
+use borrow.Author.Tests.{eqb-true, eqb-false, ne-eqb, lt-ltb}
 use Rattle.graph.specs.Reach.{Edge}
 use Rattle.lists.proofs.Cases.{on, on-same}
+use Rattle.lists.proofs.Chosen.{over-none, over-more}
 use Rattle.lists.proofs.Count.{count-ext, count-flip, room}
 use Rattle.lists.proofs.Memb.{memb-snoc-self, memb-snoc-other, distinct-snoc, below-snoc}
-use Rattle.lists.specs.Lists.{memb, isBelow, Distinct, Below}
+use Rattle.lists.specs.Lists.{memb, isBelow, Distinct, Below, over}
 use Rattle.lists.specs.Tests.{count, bit}
 use Rattle.order.proofs.Greedy.{avail-new, next-avail, rest-more, rest-end, greedy-short, greedy-sorts, greedy-fails}
 use Rattle.order.proofs.Least.{least-ext, least-hit}
+use Rattle.order.proofs.Smallest.{forward-open}
 use Rattle.order.specs.Greedy.{waits, avail, next, rest, greedy}
 use Rattle.order.specs.Least.{least}
 use Rattle.order.specs.Sort.{Smallest}
-use Rattle.order.specs.State.{Degrees, Row, Owed, free, placedMark, Needs, Sorted, Sorting}
+use Rattle.order.specs.State.{blank, Degrees, Row, Owed, free, placedMark, Needs, Sorted, Sorting}
 
 -- ---- the counts, row by row
 
@@ -103,11 +105,15 @@ module _ {E : ℕ → ℕ → Bool} {n : ℕ} {d p : List ℕ} (g : Needs E n d 
 
 -- ---- the sort's loop
 
+blank-length : length blank ≡ 256
+unfolding blank
+blank-length = length-replicate {A = ℕ} 256 0
+
 pub sorting-first : {E : ℕ → ℕ → Bool} {n : ℕ} {d : List ℕ} {v : ℕ} → n ≤ 256 → Degrees E n n d → v ≡ least (free d) n 0 → Sorting E n d (replicate 256 0) 0 v
-unfolding greedy
+unfolding greedy blank
 sorting-first {E} {n} {d} {v} b h e =
     let g : Needs E n d [] = needs-none h in
-    record { long = length-replicate {A = ℕ} 256 0; count = refl; once = tt; below = tt; needs = g; turn = e ∙ first-is g; left = rw sub-zero }
+    record { array = sym (over-none (replicate 256 0)); long = length-replicate {A = ℕ} 256 0; count = refl; once = tt; below = tt; needs = g; turn = e ∙ first-is g; left = rw sub-zero }
 
 module _ {E : ℕ → ℕ → Bool} {n : ℕ} {d o : List ℕ} {t v : ℕ} (h : Sorting E n d o t v) where
   pub sorting-end : n ≤ v → Sorted E n (eqb t n) o
@@ -118,6 +124,7 @@ module _ {E : ℕ → ℕ → Bool} {n : ℕ} {d o : List ℕ} {t v : ℕ} (h : 
       record {
         done = λ e. let s : t ≡ n = eqb-true t n e in subst (λ (w : List ℕ). Smallest (isBelow n) (Edge E n) w) (sym g ∙ ap (λ (k : ℕ). take k o) s) (greedy-sorts E n (sym len ∙ s));
         refused = λ e. let s : t ≡ n → ⊥ = eqb-false t n e in greedy-fails E n (subst (λ (k : ℕ). k < n) len (omega (arith, len, greedy-short E n)));
+        array = h .array ∙ ap (λ (w : List ℕ). over w blank) g;
       }
 
   module _ (l : v < n) where
@@ -161,6 +168,7 @@ module _ {E : ℕ → ℕ → Bool} {n : ℕ} {d o : List ℕ} {t v : ℕ} (h : 
         let u : rest E n (n - t) p ≡ v ∷ rest E n (n - (t + 1)) q =
         ap (λ (i : ℕ). rest E n i p) f ∙ rest-more E n (n - (t + 1)) p nexts ∙ ap (λ (x : ℕ). x ∷ rest E n (n - (t + 1)) (p ++ (x ∷ []))) (sym (h .turn)) in
         record {
+          array = ap (λ (w : List ℕ). set w t v) (h .array) ∙ over-more p blank v t (sym (h .count)) (omega (arith, sorting-room, blank-length)) ∙ ap (λ (w : List ℕ). over w blank) (sym r);
           long = length-set o t v ∙ h .long;
           count = omega (arith, ap length r, length-append p (v ∷ []), h .count);
           once = subst (λ (w : List ℕ). Distinct w) (sym r) (distinct-snoc p v (h .once) new);
@@ -169,3 +177,15 @@ module _ {E : ℕ → ℕ → Bool} {n : ℕ} {d o : List ℕ} {t v : ℕ} (h : 
           turn = e ∙ first-is g ∙ ap (next E n) (sym r);
           left = ap (λ (w : List ℕ). w ++ rest E n (n - (t + 1)) w) r ∙ append-snoc p v (rest E n (n - (t + 1)) q) ∙ ap (λ (w : List ℕ). p ++ w) (sym u) ∙ h .left;
         }
+
+-- any two results of the sort agree
+pub sorted-agree : {E : ℕ → ℕ → Bool} {n : ℕ} {r s : Bool} {o p : List ℕ} → Sorted E n r o → Sorted E n s p → (r ≡ s) × (o ≡ p)
+sorted-agree {E} {n} {r} {s} a b = (
+  on r
+      (λ e. on s (λ f. e ∙ sym f) (λ f. absurd (forward-open (edge-below E n) (a .done e .order) (b .refused f))))
+      (λ e. on s (λ f. absurd (forward-open (edge-below E n) (b .done f .order) (a .refused e))) (λ f. e ∙ sym f)),
+  a .array ∙ sym (b .array),
+)
+  where
+    edge-below : (E : ℕ → ℕ → Bool) (n x y : ℕ) → Edge E n x y → (isBelow n x ≡ true) × (isBelow n y ≡ true)
+    edge-below E n x y e = (lt-ltb x n (e .0), lt-ltb y n (e .1))

@@ -1,14 +1,18 @@
 -- What is computed is the sort, on vertex numbers: it fails exactly where steps form a closed walk, and otherwise it is the smallest
 -- order of live vertices in which every step goes forward. Assumes nothing.
-use mathlib.Core.Path.{_≡_, refl, sym, _∙_, subst}
+use mathlib.Core.Path.{_≡_, refl, sym, ap, _∙_, subst}
 use mathlib.Core.Bool.{true, false}
-use mathlib.Core.List.{List, map}
+use mathlib.Core.Logic.{_⊎_, inl, inr, ⊎-elim}
+use mathlib.Core.List.{List, [], map}
 use Prim.Native.Nat.{ℕ}
 use native.Mathlib.Omega.{arith}
+use lib.Dec.{leb}
 use lib.ListN.{length}
 use borrow.Author.Tests.{eqb-true, eqb-false}
 use Rattle.lists.proofs.Cases.{on}
 use Rattle.lists.proofs.Maps.{map-length}
+use Rattle.layout.specs.declared.Answer.the-variants.{Done, ClosedWalk}
+use Rattle.layout.specs.Answers.{Result, result, listed}
 use Rattle.layout.specs.Layout.{limit, vertexCount, read}
 use Rattle.layout.specs.WellFormed.{Formed}
 use Rattle.layout.specs.Steps.{hasStep}
@@ -19,7 +23,7 @@ use Rattle.order.proofs.Smallest.{smallest-unique, forward-open}
 use Rattle.steps.specs.Matrices.{numberOf, stepsBetween}
 use Rattle.steps.proofs.Among.{steps-among}
 use Rattle.steps.proofs.Records.{closed-numbers}
-use Rattle.structural.specs.Sort.{SmallestIn, ClosedIn, sortOf, acyclic}
+use Rattle.structural.specs.Sort.{SmallestIn, ClosedIn, sortOf, acyclic, sortResult, acyclicResult}
 use Rattle.structural.proofs.SortingRecords.{smallest-numbers}
 
 -- how many records were placed
@@ -63,3 +67,32 @@ module _ {ws : List ℕ} (f : Formed limit ws) where
 
   pub smallest-sort : (l : List ℕ) → SmallestIn (read limit ws) l → l ≡ sortOf (read limit ws)
   smallest-sort l s = smallest-unique s (sort-smallest (smallest-acyclic l s))
+
+  -- ---- the answers: one of the two holds, and each has its answers
+
+  pub closed-or-smallest : ClosedIn (read limit ws) ⊎ ((l : List ℕ) × SmallestIn (read limit ws) l)
+  closed-or-smallest = on (acyclic (read limit ws)) (λ e. inr (sortOf (read limit ws), sort-smallest e)) (λ e. inl (refused-closed e))
+
+  -- steps form a closed walk: 9, with room for an answer or not
+  pub closed-answers : (lent : List ℕ) → ClosedIn (read limit ws)
+      → (sortResult lent (read limit ws) ≡ result ClosedWalk lent) × (acyclicResult (read limit ws) ≡ result (Done 0) [])
+  unfolding sortResult acyclicResult
+  closed-answers lent c = (rw (closed-refused c), rw (closed-refused c))
+
+  -- l is the smallest order: l, or 11 with its length
+  pub smallest-answers : (lent l : List ℕ) → SmallestIn (read limit ws) l
+      → (sortResult lent (read limit ws) ≡ listed l lent) × (acyclicResult (read limit ws) ≡ result (Done 1) [])
+  unfolding sortResult acyclicResult
+  smallest-answers lent l s = (rw (smallest-acyclic l s, ← smallest-sort l s), rw (smallest-acyclic l s))
+
+  -- 9 only where steps form a closed walk
+  pub nine-closed : (lent : List ℕ) → sortResult lent (read limit ws) .number ≡ 9 → ClosedIn (read limit ws)
+  unfolding listed
+  nine-closed lent e = ⊎-elim
+      (λ c. c)
+      (λ s.
+      let r : listed (s .0) lent .number ≡ 9 = ap (λ (a : Result). a .number) (sym (smallest-answers lent (s .0) (s .1) .0)) ∙ e in
+      on (leb (length (s .0)) (length lent))
+      (λ h. absurd (let z : _≡_ {A = ℕ} 0 9 = rw h at r in omega arith))
+      (λ h. absurd (let z : _≡_ {A = ℕ} 11 9 = rw h at r in omega arith)))
+      closed-or-smallest

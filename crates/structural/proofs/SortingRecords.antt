@@ -37,7 +37,7 @@ module _ (f : ℕ → ℕ) where
   distinct-before [] d = tt
   distinct-before (x ∷ l) d = (on (memb x l) (λ e. clash (memb-map f x l e) (d .0)) (λ e. e), distinct-before l (d .1))
 
-pub below-of : (n : ℕ) (l : List ℕ) → ((x : ℕ) → memb x l ≡ true → x < n) → Below n l
+below-of : (n : ℕ) (l : List ℕ) → ((x : ℕ) → memb x l ≡ true → x < n) → Below n l
 below-of n [] h = tt
 below-of n (x ∷ l) h = (h x (memb-self x l), below-of n l (λ y e. h y (or-right (eqb y x) (memb y l) e)))
 

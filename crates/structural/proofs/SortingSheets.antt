@@ -1,7 +1,6 @@
 -- Sheets P1 and P7, computed over the definitions that the promises cite. Assumes nothing.
 use mathlib.Core.Path.{_≡_, refl}
-use mathlib.Core.List.{List, [], _∷_}
-use Prim.Native.Nat.{ℕ}
+use mathlib.Core.List.{[], _∷_}
 use Rattle.lists.specs.Tests.{_and_}
 use Rattle.lists.specs.Lists.{any, over}
 use Rattle.layout.specs.declared.Answer.the-variants.{Done, ClosedWalk, NoRoom}
