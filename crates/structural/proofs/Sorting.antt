@@ -36,7 +36,7 @@ unfolding acyclic
 all-placed ws e = sym (placed ws) ∙ eqb-true _ _ e ∙ live-length limit ws
 
 module _ {ws : List ℕ} (f : Formed limit ws) where
-  -- 9 only where steps form a closed walk
+  -- where a vertex could not be placed, steps form a closed walk
   pub refused-closed : acyclic (read limit ws) ≡ false → ClosedIn (read limit ws)
   unfolding acyclic
   refused-closed e =
@@ -46,7 +46,7 @@ module _ {ws : List ℕ} (f : Formed limit ws) where
       closed-numbers f (hasStep (read limit ws)) (steps-among (read limit ws) (f .content)) E (λ i j _ _. refl)
       (greedy-fails E n (omega (arith, ne, greedy-short E n)))
 
-  -- without one, the smallest order
+  -- where every vertex could be placed, what is computed is the smallest order
   pub sort-smallest : acyclic (read limit ws) ≡ true → SmallestIn (read limit ws) (sortOf (read limit ws))
   unfolding sortOf
   sort-smallest e =
@@ -57,11 +57,11 @@ module _ {ws : List ℕ} (f : Formed limit ws) where
   pub closed-none : ClosedIn (read limit ws) → (l : List ℕ) → SmallestIn (read limit ws) l → ⊥
   closed-none c l s = forward-open (steps-among (read limit ws) (f .content)) (s .order) c
 
-  -- 9 wherever steps form a closed walk
+  -- where steps form a closed walk, a vertex could not be placed
   pub closed-refused : ClosedIn (read limit ws) → acyclic (read limit ws) ≡ false
   closed-refused c = on (acyclic (read limit ws)) (λ e. absurd (closed-none c _ (sort-smallest e))) (λ e. e)
 
-  -- whatever is the smallest order is what is computed
+  -- where there is a smallest order, every vertex could be placed, and the order is what is computed
   pub smallest-acyclic : (l : List ℕ) → SmallestIn (read limit ws) l → acyclic (read limit ws) ≡ true
   smallest-acyclic l s = on (acyclic (read limit ws)) (λ e. e) (λ e. absurd (closed-none (refused-closed e) l s))
 
