@@ -25,7 +25,8 @@ use Rattle.order.proofs.Smallest.{forward-open}
 use Rattle.order.specs.Greedy.{waits, avail, next, rest, greedy}
 use Rattle.order.specs.Least.{least}
 use Rattle.order.specs.Sort.{Smallest}
-use Rattle.order.specs.State.{blank, Degrees, Row, Owed, free, placedMark, Needs, Sorted, Sorting}
+use Rattle.order.specs.Post.{blank, Sorted}
+use Rattle.order.specs.State.{Degrees, Row, Owed, free, placedMark, Needs, Sorting}
 
 -- ---- the counts, row by row
 

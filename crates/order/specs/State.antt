@@ -1,16 +1,14 @@
--- What the code of the sort holds, and its contract. Assumes nothing.
+-- What the code of the sort holds. Assumes nothing.
 use mathlib.Core.Path.{_≡_}
-use mathlib.Core.Bool.{Bool, true, false, not}
+use mathlib.Core.Bool.{Bool, true, not}
 use mathlib.Core.List.{List, _++_}
 use Prim.Native.Nat.{ℕ, _+_, _-_, _*_, _≤_, _<_}
 use lib.Dec.{eqb}
-use lib.ListN.{length, getD, take, replicate}
-use Rattle.graph.specs.Reach.{Edge}
-use Rattle.lists.specs.Lists.{memb, isBelow, Distinct, Below, over}
+use lib.ListN.{length, getD, take}
+use Rattle.lists.specs.Lists.{memb, Distinct, Below, over}
 use Rattle.lists.specs.Tests.{count, bit}
 use Rattle.order.specs.Greedy.{waits, next, rest, greedy}
-use Rattle.order.specs.Sort.{Smallest}
-use Rattle.walks.specs.Walks.{Closed}
+use Rattle.order.specs.Post.{blank}
 
 -- how many of the numbers below u have a step to each number
 pub record Degrees (E : ℕ → ℕ → Bool) (n u : ℕ) (d : List ℕ) : Type 0 where
@@ -51,16 +49,6 @@ placedMark = 512
 pub record Needs (E : ℕ → ℕ → Bool) (n : ℕ) (d : List ℕ) (p : List ℕ) : Type 0 where
   pub long : length d ≡ 256
   pub is : (v : ℕ) → v < n → getD d v 0 ≡ count (waits E p v) n + bit (memb v p) * placedMark
-
--- an array of 256 zeros
-unfoldable pub blank : List ℕ
-blank = replicate 256 0
-
--- the contract of the sort: done or refused, and what stands in the array
-pub record Sorted (E : ℕ → ℕ → Bool) (n : ℕ) (r : Bool) (o : List ℕ) : Type 0 where
-  pub done : r ≡ true → Smallest (isBelow n) (Edge E n) (take n o)
-  pub refused : r ≡ false → Closed (Edge E n)
-  pub array : o ≡ over (greedy E n) blank
 
 -- what the sort's loop holds: what is placed and what is left of the sort make the whole, and v is next
 pub record Sorting (E : ℕ → ℕ → Bool) (n : ℕ) (d o : List ℕ) (t v : ℕ) : Type 0 where

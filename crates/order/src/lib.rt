@@ -6,7 +6,8 @@ ghost use lib.Dec.{eqb};
 ghost use Rattle.lists.specs.Tests.{_and_, bit, every};
 ghost use Rattle.graph.specs.Reach.{matrix};
 ghost use Rattle.order.specs.Least.{least};
-ghost use Rattle.order.specs.State.{Degrees, Row, Owed, free, busy, Sorted};
+ghost use Rattle.order.specs.Post.{Sorted};
+ghost use Rattle.order.specs.State.{Degrees, Row, Owed, free, busy};
 
 // What stands in place of a number's count once the number is placed: no count reaches it.
 const PLACED: u16 = 512;

@@ -16,7 +16,7 @@ use Rattle.layout.specs.Steps.{hasStep}
 use Rattle.layout.proofs.Read.{live-length}
 use Rattle.graph.specs.Reach.{matrix, Edge}
 use Rattle.order.specs.Sort.{Smallest}
-use Rattle.order.specs.State.{Sorted}
+use Rattle.order.specs.Post.{Sorted}
 use Rattle.order.proofs.Greedy.{greedy-below, greedy-sorts}
 use Rattle.order.proofs.Smallest.{smallest-unique, smallest-as}
 use Rattle.steps.specs.Matrices.{numberOf, stepsBetween, Holds}
