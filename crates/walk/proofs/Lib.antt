@@ -1,3 +1,4 @@
+pub mod Entered
 pub mod Listing
 pub mod Others
 pub mod Walked

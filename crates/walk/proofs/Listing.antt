@@ -1,26 +1,30 @@
 -- Laws of the hyperedges that list a vertex: their end, their total weight, the first whose running sum is greater. Assumes nothing.
 use mathlib.Core.Path.{_≡_, refl, sym, ap, _∙_}
-use mathlib.Core.Bool.{Bool, true, false, not, cond}
+use mathlib.Core.Bool.{Bool, true, false, cond, _&&_}
 use mathlib.Core.List.{List, [], _∷_, _++_}
 use Prim.Native.Nat.{ℕ, zero, suc, _+_, _-_, _*_, _≤_, _<_}
 use native.Mathlib.Nat.{add-zero, zero-add, add-assoc, suc-ne-zero, not-suc-le-zero, lt-irrefl}
 use native.Mathlib.Numerals.{add-one}
 use native.Mathlib.Omega.{arith}
+use lib.Dec.{eqb}
 use lib.Ieee.{Float, lt}
 use lib.ListN.{length, getD, take, set, length-set}
 use lib.Seq.{take-suc, take-all, getD-set-same, getD-set-other}
 use borrow.Author.Count.{below-more}
-use borrow.Author.Tests.{not-true, not-false}
+use borrow.Author.Tests.{eq-eqb, ne-eqb}
+use Rattle.lists.specs.Tests.{_and_}
 use Rattle.lists.specs.Lists.{memb, filter, tab}
-use Rattle.lists.proofs.Cases.{on}
+use Rattle.lists.proofs.Cases.{on, and-left, and-right}
 use Rattle.lists.proofs.Memb.{memb-snoc-self, memb-snoc-other}
 use Rattle.lists.proofs.Tab.{tab-suc, tab-ext}
 use Rattle.lists.proofs.Filter.{filter-snoc}
 use Rattle.layout.specs.Content.{Hyperedge, lists, hyperedgesOf}
-use Rattle.layout.specs.Layout.{limit, vertexLimit, hyperedgeCount, hyperedgeAt, read}
+use Rattle.layout.specs.Layout.{limit, vertexLimit, vertexCount, hyperedgeCount, hyperedgeAt, read}
 use Rattle.layout.specs.WellFormed.{Formed}
 use Rattle.walk.specs.Walk.{float, sample, totalWeight, firstGreater}
-use Rattle.walk.specs.Passes.{largestWord, listsAt, listing, Ends, markedFrom, Greater}
+use Rattle.steps.specs.Matrices.{numberOf, cell}
+use Rattle.walk.specs.Passes.{largestWord, listsAt, Members, listing, Ends, markedFrom, Greater}
+use Rattle.walk.proofs.Entered.{member-mark}
 
 -- ---- a loop over a list that looks for v: found says whether v is among the first i
 
@@ -66,19 +70,23 @@ module _ (ws : List ℕ) (v n : ℕ) (h : n ≤ hyperedgeCount ws) (inv : listin
       let z : n ≡ 0 = omega arith in
       record { within = omega arith; among = rw z at inv; lists-last = λ k e. absurd (suc-ne-zero k (sym e)) }
 
-  -- r is what was found of record n - 1
-  module _ (l : 0 < n) (r : Bool) (e : r ≡ listsAt ws v (n - 1)) where
-    pub ends-here : r ≡ true → Ends ws v n
-    ends-here q = record {
-      within = h;
-      among = inv;
-      lists-last = λ k s. let p : n - 1 ≡ k = omega arith in ap (listsAt ws v) (sym p) ∙ sym e ∙ q;
-    }
+-- the same at the vertex of record i, by the matrix
+module _ (ws : List ℕ) (f : Formed limit ws) {m : List ℕ} (w : Members ws m) (i : ℕ) (li : i < vertexCount ws) (n : ℕ) (h : n ≤ hyperedgeCount ws) (l : 0 < n)
+    (inv : listing ws (numberOf (read limit ws) i) n ≡ hyperedgesOf (read limit ws) (numberOf (read limit ws) i)) where
+  lists-last-one : eqb (getD m (cell i (n - 1)) 0) 1 ≡ listsAt ws (numberOf (read limit ws) i) (n - 1)
+  lists-last-one = member-mark ws f w i (n - 1) li (omega arith)
 
-    pub ends-on : r ≡ false → listing ws v (n - 1) ≡ hyperedgesOf (read limit ws) v
-    ends-on q =
-        let s : n - 1 + 1 ≡ n = omega arith in
-        sym (listing-out ws v (n - 1) (sym e ∙ q)) ∙ ap (listing ws v) s ∙ inv
+  pub ends-here : getD m (cell i (n - 1)) 0 ≡ 1 → Ends ws (numberOf (read limit ws) i) n
+  ends-here q = record {
+    within = h;
+    among = inv;
+    lists-last = λ k s. let p : n - 1 ≡ k = omega arith in ap (listsAt ws (numberOf (read limit ws) i)) (sym p) ∙ sym lists-last-one ∙ eq-eqb (getD m (cell i (n - 1)) 0) 1 q;
+  }
+
+  pub ends-on : (getD m (cell i (n - 1)) 0 ≡ 1 → ⊥) → listing ws (numberOf (read limit ws) i) (n - 1) ≡ hyperedgesOf (read limit ws) (numberOf (read limit ws) i)
+  ends-on q =
+      let s : n - 1 + 1 ≡ n = omega arith in
+      sym (listing-out ws (numberOf (read limit ws) i) (n - 1) (sym lists-last-one ∙ ne-eqb (getD m (cell i (n - 1)) 0) 1 q)) ∙ ap (listing ws (numberOf (read limit ws) i)) s ∙ inv
 
 -- the last of the first n lists v
 pub ends-with : (ws : List ℕ) (v n : ℕ) → Ends ws v n → (n ≡ 0 → ⊥) → listing ws v n ≡ listing ws v (n - 1) ++ (hyperedgeAt limit ws (n - 1) ∷ [])
@@ -99,8 +107,8 @@ pub marked-none : (ws : List ℕ) (v n : ℕ) (marks : List Bool) → length mar
 marked-none ws v n marks l = record { within = omega arith; sized = l; tests = λ i h. absurd (not-suc-le-zero h) }
 
 module _ (ws : List ℕ) (v n : ℕ) (marks : List Bool) (j : ℕ) (inv : Marked ws v n marks j) where
-  pub marked-more : (r : Bool) → Formed limit ws → n ≤ hyperedgeCount ws → j < n → r ≡ listsAt ws v j → Marked ws v n (set marks j r) (j + 1)
-  marked-more r f l h e = record {
+  marked-set : (r : Bool) → r ≡ listsAt ws v j → Formed limit ws → n ≤ hyperedgeCount ws → j < n → Marked ws v n (set marks j r) (j + 1)
+  marked-set r e f l h = record {
     within = omega arith;
     sized = length-set marks j r ∙ inv .sized;
     tests = below-more (λ (i : ℕ). getD (set marks j r) i false ≡ listsAt ws v i) j
@@ -118,6 +126,11 @@ module _ (ws : List ℕ) (v n : ℕ) (marks : List Bool) (j : ℕ) (inv : Marked
   pub marked-end : n ≤ j → markedFrom ws marks 0 n ≡ listing ws v n
   unfolding listing
   marked-end h = from-marks n 0 (omega arith) ∙ ap (filter (lists v)) (tab-ext _ _ n (λ i l. ap (hyperedgeAt limit ws) (zero-add i)))
+
+-- the mark that the matrix gives
+pub marked-more : (ws : List ℕ) → Formed limit ws → {m : List ℕ} → Members ws m → (i n : ℕ) (marks : List Bool) (j : ℕ) → i < vertexCount ws → n ≤ hyperedgeCount ws → j < n
+    → Marked ws (numberOf (read limit ws) i) n marks j → Marked ws (numberOf (read limit ws) i) n (set marks j (eqb (getD m (cell i j) 0) 1)) (j + 1)
+marked-more ws f w i n marks j li l h inv = marked-set ws (numberOf (read limit ws) i) n marks j inv _ (member-mark ws f w i j li (omega arith)) f l h
 
 -- ---- what is left of the marked records from j on
 
@@ -165,6 +178,11 @@ module _ (ws : List ℕ) (marks : List Bool) (n total j : ℕ) (inv : Summed ws 
   unfolding totalWeight
   summed-end h = sym (add-zero total) ∙ (rw (rest-none ws marks n j h) at (inv .ahead))
 
+pub greater-is : (marked : Bool) (x f : Float) (sum : ℕ) → f ≡ float sum → (marked && lt x f) ≡ (marked and lt x (float sum))
+unfolding _and_
+greater-is true x f sum e = rw e
+greater-is false x f sum e = refl
+
 -- ---- the loop that looks for the first whose running sum is greater: sum is the running sum of the first j
 
 pub record Left (ws : List ℕ) (marks : List Bool) (n : ℕ) (x : Float) (sum j : ℕ) : Type 0 where
@@ -180,26 +198,31 @@ module _ (ws : List ℕ) (marks : List Bool) (n : ℕ) (x : Float) (sum j : ℕ)
   unfolding firstGreater
   left-end l h = record { within = omega arith; taken = rw (rest-none ws marks n j h) at (inv .ahead) }
 
-  module _ (h : j < n) where
-    pub left-skip : not (getD marks j false) ≡ true → Left ws marks n x sum (j + 1)
-    left-skip q = record {
-      within = omega arith;
-      small = omega (arith, inv .small);
-      ahead = rw (← rest-out ws marks n j h (not-true _ q)) (inv .ahead);
-    }
+  -- y is the weight of record j, c counts it where it is marked, and r says whether it is marked and its running sum is greater
+  module _ (h : j < n) (y c : ℕ) (ey : y ≡ hyperedgeAt limit ws j .weight) (ec : c ≡ cond (getD marks j false) y 0)
+      (r : Bool) (er : r ≡ (getD marks j false and lt x (float (sum + c)))) where
+    turn : getD marks j false ≡ true → cond (lt x (float (sum + c))) (hyperedgeAt limit ws j) (firstGreater x (hyperedgeAt limit ws (n - 1)) (sum + c) (markedFrom ws marks (j + 1) (n - (j + 1))))
+        ≡ firstGreater x (hyperedgeAt limit ws (n - 1)) 0 (markedFrom ws marks 0 n)
+    unfolding firstGreater
+    turn q =
+        let p : c ≡ hyperedgeAt limit ws j .weight = ec ∙ ap (λ (b : Bool). cond b y 0) q ∙ ey in
+        rw p (rw (rest-in ws marks n j h q) at (inv .ahead))
 
-    -- y is the weight of record j, and f the running sum with it
-    module _ (y : ℕ) (ey : y ≡ hyperedgeAt limit ws j .weight) (f : Float) (ef : f ≡ float (sum + y)) where
-      turn : not (getD marks j false) ≡ false → cond (lt x f) (hyperedgeAt limit ws j) (firstGreater x (hyperedgeAt limit ws (n - 1)) (sum + y) (markedFrom ws marks (j + 1) (n - (j + 1))))
-          ≡ firstGreater x (hyperedgeAt limit ws (n - 1)) 0 (markedFrom ws marks 0 n)
-      unfolding firstGreater
-      turn q = rw (ef, ey) (rw (rest-in ws marks n j h (not-false _ q)) at (inv .ahead))
+    pub left-take : r ≡ true → Greater ws (markedFrom ws marks 0 n) n x j
+    left-take g =
+        let b = sym er ∙ g in
+        record { within = h; taken = rw (and-right _ _ b) at (turn (and-left _ _ b)) }
 
-      pub left-take : not (getD marks j false) ≡ false → lt x f ≡ true → Greater ws (markedFrom ws marks 0 n) n x j
-      left-take q g = record { within = h; taken = rw g at (turn q) }
+    on-or-skip : r ≡ false → (q : Bool) → getD marks j false ≡ q
+        → firstGreater x (hyperedgeAt limit ws (n - 1)) (sum + c) (markedFrom ws marks (j + 1) (n - (j + 1))) ≡ firstGreater x (hyperedgeAt limit ws (n - 1)) 0 (markedFrom ws marks 0 n)
+    unfolding _and_
+    on-or-skip g true q = let b : lt x (float (sum + c)) ≡ false = sym (er ∙ ap (λ (z : Bool). z and lt x (float (sum + c))) q) ∙ g in rw b at (turn q)
+    on-or-skip g false q =
+        let p : c ≡ 0 = ec ∙ ap (λ (b : Bool). cond b y 0) q in
+        rw (p, add-zero, ← rest-out ws marks n j h q) (inv .ahead)
 
-      pub left-on : not (getD marks j false) ≡ false → y ≤ largestWord → lt x f ≡ false → Left ws marks n x (sum + y) (j + 1)
-      left-on q s g = record { within = omega arith; small = omega (arith, inv .small); ahead = rw g at (turn q) }
+    pub left-on : c ≤ largestWord → r ≡ false → Left ws marks n x (sum + c) (j + 1)
+    left-on s g = record { within = omega arith; small = omega (arith, inv .small); ahead = on-or-skip g (getD marks j false) refl }
 
 -- es are the marked ones, and x is the draw's sample, made with the total that was found
 pub greater-drawn : (ws : List ℕ) (es fs : List Hyperedge) (n draw total : ℕ) (x : Float) (j : ℕ) → es ≡ fs → total ≡ totalWeight es → x ≡ sample draw total

@@ -1,22 +1,30 @@
 -- Laws of a move and of the walk. Assumes nothing.
 use mathlib.Core.Path.{_≡_, refl, sym, ap, _∙_}
+use mathlib.Core.Bool.{true, false}
 use mathlib.Core.List.{List, [], _∷_, _++_, append-assoc, append-nil}
 use Prim.Native.Nat.{ℕ, zero, suc, _+_, _-_, _≤_, _<_}
 use native.Mathlib.Omega.{arith}
-use lib.ListN.{length, set, length-append, length-set}
+use lib.ListN.{length, getD, set, length-append, length-set}
 use borrow.Author.Tests.{le-leb, lt-leb, eq-eqb, ne-eqb}
-use Rattle.lists.specs.Lists.{over}
+use Rattle.lists.specs.Lists.{all, filter, over}
+use Rattle.lists.proofs.Cases.{on, clash, and-left, and-right}
+use Rattle.lists.proofs.Memb.{memb-at}
+use Rattle.lists.proofs.All.{all-at}
 use Rattle.lists.proofs.Chosen.{over-none, over-more}
 use Rattle.layout.specs.declared.Found.{Found}
 use Rattle.layout.specs.declared.Found.the-variants.{At, Nothing}
 use Rattle.layout.specs.declared.Answer.the-variants.{Done, NoRoom}
-use Rattle.layout.specs.Content.{Hyperedge, Table, liveVertices, position}
-use Rattle.layout.specs.Layout.{limit, membersAt, hyperedgeAt, read}
+use Rattle.layout.specs.Content.{Hyperedge, Table, liveVertices, isLive, lists, hyperedgesOf, membersLive, valid, position}
+use Rattle.layout.specs.Layout.{limit, vertexLimit, vertexCount, membersAt, hyperedgeAt, readHyperedges, read}
+use Rattle.layout.specs.WellFormed.{Formed}
 use Rattle.layout.specs.Answers.{Result, result, vertexMissing, listed}
+use Rattle.layout.proofs.Position.{position-found, missing-dead}
+use Rattle.layout.proofs.Read.{members-le, vertex-found}
 use Rattle.layout.proofs.Answers.{on-missing, on-found, listed-over, listed-fits}
+use Rattle.steps.specs.Matrices.{numberOf}
 use Rattle.walk.specs.declared.Walker.{Walker}
 use Rattle.walk.specs.Walk.{xorshift, sample, totalWeight, lastOf, firstGreater, others, toOneOf, walker, moveAlong, move, walkFrom, stepLimit, cut, firstState, walk, walkResult}
-use Rattle.walk.specs.Passes.{listing, Ends, Greater}
+use Rattle.walk.specs.Passes.{listing, Ends, Drawn}
 use Rattle.walk.proofs.Listing.{listing-none, ends-with}
 
 -- ---- a move
@@ -33,18 +41,57 @@ unfolding moveAlong lastOf
 along w [] z = refl
 along w (e ∷ es) z = rw (last-snoc e es z)
 
-module _ (ws : List ℕ) (w : Walker) (n : ℕ) (e : Ends ws (w .at) n) where
-  pub move-none : n ≡ 0 → w ≡ move (read limit ws) w
-  unfolding move moveAlong
-  move-none q = rw (← e .among, q, listing-none ws (w .at))
+moved : (ws : List ℕ) (w : Walker) (n : ℕ) → Ends ws (w .at) n → (n ≡ 0 → ⊥) → (draw j : ℕ) → draw ≡ xorshift (w .state) → Drawn ws (w .at) n draw j
+    → (ms : List ℕ) → ms ≡ membersAt limit ws j → (r : Walker) → r ≡ toOneOf (w .at) draw (others (w .at) ms) → r ≡ move (read limit ws) w
+unfolding move
+moved ws w n e h draw j d g ms m r q =
+    let z : Hyperedge = hyperedgeAt limit ws (n - 1) in
+    let f : membersAt limit ws j ≡ firstGreater (sample draw (totalWeight (listing ws (w .at) n))) z 0 (listing ws (w .at) n) .members = ap (λ (e : Hyperedge). e .members) (g .taken) in
+    q ∙ rw (m, f, d, ends-with ws (w .at) n e h) (sym (along w (listing ws (w .at) (n - 1)) z)) ∙ ap (moveAlong w) (sym (ends-with ws (w .at) n e h) ∙ e .among)
 
-  pub move-one : (n ≡ 0 → ⊥) → (draw j : ℕ) → draw ≡ xorshift (w .state) → Greater ws (listing ws (w .at) n) n (sample draw (totalWeight (listing ws (w .at) n))) j
-      → (ms : List ℕ) → ms ≡ membersAt limit ws j → (r : Walker) → r ≡ toOneOf (w .at) draw (others (w .at) ms) → r ≡ move (read limit ws) w
-  unfolding move
-  move-one h draw j d g ms m r q =
-      let z : Hyperedge = hyperedgeAt limit ws (n - 1) in
-      let f : membersAt limit ws j ≡ firstGreater (sample draw (totalWeight (listing ws (w .at) n))) z 0 (listing ws (w .at) n) .members = ap (λ (e : Hyperedge). e .members) (g .taken) in
-      q ∙ rw (m, f, d, ends-with ws (w .at) n e h) (sym (along w (listing ws (w .at) (n - 1)) z)) ∙ ap (moveAlong w) (sym (ends-with ws (w .at) n e h) ∙ e .among)
+-- the walker stands at the vertex of record i
+module _ (ws : List ℕ) (w : Walker) (i : ℕ) (p : position (w .at) (liveVertices (read limit ws)) ≡ At i) where
+  pub stands : i < vertexCount ws
+  stands = vertex-found limit ws (w .at) i p .0
+
+  number-is : numberOf (read limit ws) i ≡ w .at
+  number-is = position-found (w .at) (liveVertices (read limit ws)) i p .1
+
+  module _ (n : ℕ) (e : Ends ws (numberOf (read limit ws) i) n) where
+    pub move-none : n ≡ 0 → w ≡ move (read limit ws) w
+    unfolding move moveAlong
+    move-none q = rw (← number-is, ← e .among, q, listing-none ws (numberOf (read limit ws) i))
+
+    pub move-one : (n ≡ 0 → ⊥) → (draw j : ℕ) → draw ≡ xorshift (w .state) → Drawn ws (numberOf (read limit ws) i) n draw j
+        → (ms : List ℕ) → ms ≡ membersAt limit ws j → (r : Walker) → r ≡ toOneOf (w .at) draw (others (w .at) ms) → r ≡ move (read limit ws) w
+    move-one h draw j d g ms m r q = moved ws w n (rw number-is at e) h draw j d (rw number-is at g) ms m r q
+
+member-live : (live : List ℕ) (e : Hyperedge) (i : ℕ) → membersLive live e ≡ true → i < length (e .members) → isLive live (getD (e .members) i 0) ≡ true
+unfolding membersLive
+member-live live e i h l = all-at (isLive live) (e .members) i 0 h l
+
+-- a vertex that is not live stands in no list
+unlisted : (live : List ℕ) (v : ℕ) → isLive live v ≡ false → (es : List Hyperedge) → all (membersLive live) es ≡ true → filter (lists v) es ≡ []
+unfolding filter all
+unlisted live v d [] h = refl
+unlisted live v d (e ∷ es) h =
+    on (lists v e)
+    (λ q. let k = memb-at v (e .members) q in clash (rw (k .2) at (member-live live e (k .0) (and-left _ _ h) (k .1))) d)
+    (λ q. rw q (unlisted live v d es (and-right _ _ h)))
+
+-- ms is what `members_formed` found of record j
+pub members-few : (ws : List ℕ) → Formed limit ws → (v n draw j : ℕ) (ms : List ℕ) → Ends ws v n → Drawn ws v n draw j → ms ≡ membersAt limit ws j → length ms ≤ vertexLimit
+members-few ws f v n draw j ms w d e = omega (arith, ap length e, members-le limit ws f j (omega (arith, w .within, d .within)))
+
+-- p is what `find_vertex` returned
+module _ (ws : List ℕ) (w : Walker) (p : Found) (e : p ≡ position (w .at) (liveVertices (read limit ws))) where
+  pub move-dead : Formed limit ws → p ≡ Nothing → w ≡ move (read limit ws) w
+  unfolding move moveAlong hyperedgesOf valid
+  move-dead f h =
+      rw (unlisted (liveVertices (read limit ws)) (w .at) (missing-dead (w .at) (liveVertices (read limit ws)) (sym e ∙ h)) (readHyperedges limit ws) (and-right _ _ (and-right _ _ (f .content))))
+
+  pub found-here : (i : ℕ) → p ≡ At i → position (w .at) (liveVertices (read limit ws)) ≡ At i
+  found-here i h = sym e ∙ h
 
 -- ---- the loop that writes the vertices: i are written, and the walk goes on from the vertex with the state
 

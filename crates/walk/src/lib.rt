@@ -2,13 +2,20 @@
 ghost use mathlib.Core.Path.{_≡_};
 ghost use mathlib.Core.Bool.{cond};
 ghost use Prim.Native.Nat.{_<_, _≤_, _^_};
-ghost use lib.ListN.{length, getD};
+ghost use lib.Ieee.{lt};
+ghost use lib.ListN.{length, getD, take};
+ghost use Rattle.lists.specs.Tests.{_and_};
 ghost use Rattle.lists.specs.Lists.{memb, over};
-ghost use Rattle.layout.specs.Layout.{limit, hyperedgeCount, read};
+ghost use Rattle.layout.specs.Content.{liveVertices, position};
+ghost use Rattle.layout.specs.Layout.{limit, vertexLimit, vertexCount, hyperedgeCount, read};
 ghost use Rattle.layout.specs.WellFormed.{Formed};
 ghost use Rattle.layout.specs.Answers.{result, listed, onFormed};
+ghost use Rattle.steps.specs.Matrices.{numberOf};
 ghost use Rattle.walk.specs.Walk.{xorshift, float, sample, totalWeight, isFirstOther, others, toOneOf, move, walkFrom, stepLimit, cut, firstState, walk, walkResult};
-ghost use Rattle.walk.specs.Passes.{largestWord, listsAt, markedFrom, listing, Ends, Greater};
+ghost use Rattle.walk.specs.Passes.{largestWord, Members, markedFrom, listing, Ends, Greater, Drawn};
+
+mod membership;
+
 use layout::Answer;
 use layout::Found;
 use layout::VertexIndex;
@@ -49,37 +56,15 @@ fn sample(draw: u64, total: u64) -> f64
 
 // ---- the hyperedge
 
-// Whether v stands in the list. No word is skipped, so that the compiler can take several at a time.
-fn lists_vertex(ms: &[u32], v: u32) -> bool
-    ensures { λ r. ⌜ r ≡ memb v (now (ms .entry)) ⌝ }
-{
-    let mut found = false;
-    let mut i = 0;
-    while i < ms.len() {
-        if ms[i] == v {
-            found = true;
-        }
-        i += 1;
-    }
-    found
-}
-
-fn record_lists(t: &[u32], v: u32, j: usize) -> bool
+// How many records there are up to the last that lists the vertex of record i.
+fn listing_end(t: &[u32], m: &[u8; 65536], i: usize) -> usize
     requires { ⌜ Formed limit (now t) ⌝ }
-    requires { ⌜ j < hyperedgeCount (now t) ⌝ }
-    ensures { λ r. ⌜ r ≡ listsAt (now (t .entry)) v j ⌝ }
-{
-    lists_vertex(layout::members_formed(t, j), v)
-}
-
-// How many records there are up to the last that lists v.
-fn listing_end(t: &[u32], v: u32) -> usize
-    requires { ⌜ Formed limit (now t) ⌝ }
-    ensures { λ r. ⌜ Ends (now (t .entry)) v r ⌝ }
+    requires { ⌜ (i < vertexCount (now t)) × Members (now t) (now m) ⌝ }
+    ensures { λ r. ⌜ Ends (now (t .entry)) (numberOf (read limit (now (t .entry))) i) r ⌝ }
 {
     let mut n = layout::hyperedge_count(t);
     while 0 < n {
-        if record_lists(t, v, n - 1) {
+        if m[i * layout::VERTEX_LIMIT + (n - 1)] == 1 {
             return n;
         }
         n -= 1;
@@ -87,16 +72,16 @@ fn listing_end(t: &[u32], v: u32) -> usize
     0
 }
 
-// Marks those of the first n records that list v. There are fewer records than marks.
-fn mark_listing(t: &[u32], v: u32, n: usize) -> [bool; 256]
+// Marks those of the first n records that list the vertex of record i. There are fewer records than marks.
+fn mark_listing(t: &[u32], m: &[u8; 65536], i: usize, n: usize) -> [bool; 256]
     requires { ⌜ Formed limit (now t) ⌝ }
-    requires { ⌜ n ≤ hyperedgeCount (now t) ⌝ }
-    ensures { λ r. ⌜ markedFrom (now (t .entry)) r 0 n ≡ listing (now (t .entry)) v n ⌝ }
+    requires { ⌜ (i < vertexCount (now t)) × (n ≤ hyperedgeCount (now t)) × Members (now t) (now m) ⌝ }
+    ensures { λ r. ⌜ markedFrom (now (t .entry)) r 0 n ≡ listing (now (t .entry)) (numberOf (read limit (now (t .entry))) i) n ⌝ }
 {
     let mut marks = [false; 256];
     let mut j = 0;
     while j < n {
-        marks[j] = record_lists(t, v, j);
+        marks[j] = m[i * layout::VERTEX_LIMIT + j] == 1;
         j += 1;
     }
     marks
@@ -133,6 +118,14 @@ fn total_weight(t: &[u32], marks: &[bool; 256], n: usize) -> u64
     total
 }
 
+// Whether a record is marked and its running sum is greater than x.
+fn greater(marked: bool, x: f64, sum: u64) -> bool
+    requires { ⌜ sum ≤ 2 ^ 53 ⌝ }
+    ensures { λ r. ⌜ r ≡ (marked and lt x (float sum)) ⌝ }
+{
+    marked & (x < exact(sum))
+}
+
 // The first marked one of the first n records whose running sum is greater than x, else record n - 1.
 fn first_greater(t: &[u32], marks: &[bool; 256], n: usize, x: f64) -> usize
     requires { ⌜ Formed limit (now t) ⌝ }
@@ -142,12 +135,8 @@ fn first_greater(t: &[u32], marks: &[bool; 256], n: usize, x: f64) -> usize
     let mut sum = 0;
     let mut j = 0;
     while j < n {
-        if !marks[j] {
-            j += 1;
-            continue;
-        }
-        sum += wide(layout::hyperedge_weight(t, j));
-        if x < exact(sum) {
+        sum += counting(marks[j], layout::hyperedge_weight(t, j));
+        if greater(marks[j], x, sum) {
             return j;
         }
         j += 1;
@@ -156,6 +145,21 @@ fn first_greater(t: &[u32], marks: &[bool; 256], n: usize, x: f64) -> usize
 }
 
 // ---- the member
+
+// Whether v stands in the list. No word is skipped, so that the compiler can take several at a time.
+fn lists_vertex(ms: &[u32], v: u32) -> bool
+    ensures { λ r. ⌜ r ≡ memb v (now (ms .entry)) ⌝ }
+{
+    let mut found = false;
+    let mut i = 0;
+    while i < ms.len() {
+        if ms[i] == v {
+            found = true;
+        }
+        i += 1;
+    }
+    found
+}
 
 // Whether what stands at place i is not v, and stands at no place before.
 fn is_first_other(ms: &[u32], v: u32, i: usize) -> bool
@@ -169,24 +173,10 @@ fn is_first_other(ms: &[u32], v: u32, i: usize) -> bool
     !lists_vertex(&ms[..i], x)
 }
 
-fn count_others(ms: &[u32], v: u32) -> usize
-    ensures { λ r. ⌜ r ≡ length (others v (now (ms .entry))) ⌝ }
-{
-    let mut c = 0;
-    let mut i = 0;
-    while i < ms.len() {
-        if is_first_other(ms, v, i) {
-            c += 1;
-        }
-        i += 1;
-    }
-    c
-}
-
-// The k-th of the distinct other members, counted from 0.
-fn other_at(ms: &[u32], v: u32, k: usize) -> u32
-    requires { ⌜ k < length (others v (now ms)) ⌝ }
-    ensures { λ r. ⌜ r ≡ getD (others v (now (ms .entry))) k 0 ⌝ }
+// The distinct other members, in order of first place, in the first places of `found`.
+fn list_others(ms: &[u32], v: u32, found: &mut [u32; 256]) -> usize
+    requires { ⌜ (length (now ms) ≤ vertexLimit) × (length (now found) ≡ vertexLimit) ⌝ }
+    ensures { λ r. ⌜ (take r (now (found .exit)) ≡ others v (now (ms .entry))) × (r ≡ length (others v (now (ms .entry)))) ⌝ }
 {
     let mut c = 0;
     let mut i = 0;
@@ -195,62 +185,82 @@ fn other_at(ms: &[u32], v: u32, k: usize) -> u32
             i += 1;
             continue;
         }
-        if c == k {
-            return ms[i];
-        }
+        found[c] = ms[i];
         c += 1;
         i += 1;
     }
-    v
+    c
+}
+
+fn pick(found: &[u32; 256], k: usize) -> u32
+    requires { ⌜ k < vertexLimit ⌝ }
+    ensures { λ r. ⌜ r ≡ getD (now (found .entry)) k 0 ⌝ }
+{
+    found[k]
 }
 
 // To a distinct other member by a second draw; v stays where there is none.
 fn to_one_of(ms: &[u32], v: u32, state: u64) -> Walker
+    requires { ⌜ length (now ms) ≤ vertexLimit ⌝ }
     ensures { λ r. ⌜ r ≡ toOneOf v state (others v (now (ms .entry))) ⌝ }
 {
-    let n = count_others(ms, v);
+    let mut found = [0u32; 256];
+    let n = list_others(ms, v, &mut found);
     if n == 0 {
         return Walker { at: v, state };
     }
     let draw = xorshift(state);
     let k = draw as usize % n;
     Walker {
-        at: other_at(ms, v, k),
+        at: pick(&found, k),
         state: draw,
     }
 }
 
 // ---- the walk
 
-// The place of the hyperedge that the draw takes, of those of the first n records that list v.
-fn drawn_hyperedge(t: &[u32], v: u32, n: usize, draw: u64) -> usize
+// The place of the hyperedge that the draw takes, of those of the first n records that list the vertex of record i.
+fn drawn_hyperedge(t: &[u32], m: &[u8; 65536], i: usize, n: usize, draw: u64) -> usize
     requires { ⌜ Formed limit (now t) ⌝ }
-    requires { ⌜ (0 < n) × (n ≤ hyperedgeCount (now t)) ⌝ }
-    ensures { λ r. ⌜ Greater (now (t .entry)) (listing (now (t .entry)) v n) n (sample draw (totalWeight (listing (now (t .entry)) v n))) r ⌝ }
+    requires { ⌜ (i < vertexCount (now t)) × (0 < n) × (n ≤ hyperedgeCount (now t)) × Members (now t) (now m) ⌝ }
+    ensures { λ r. ⌜ Drawn (now (t .entry)) (numberOf (read limit (now (t .entry))) i) n draw r ⌝ }
 {
-    let marks = mark_listing(t, v, n);
+    let marks = mark_listing(t, m, i, n);
     let total = total_weight(t, &marks, n);
     first_greater(t, &marks, n, sample(draw, total))
 }
 
-fn step(t: &[u32], w: Walker) -> Walker
+// A step of a walker that stands at the vertex of record i.
+fn step_from(t: &[u32], m: &[u8; 65536], i: usize, w: Walker) -> Walker
     requires { ⌜ Formed limit (now t) ⌝ }
+    requires { ⌜ (position (w .at) (liveVertices (read limit (now t))) ≡ Found.At i) × Members (now t) (now m) ⌝ }
     ensures { λ r. ⌜ r ≡ move (read limit (now (t .entry))) w ⌝ }
 {
-    let v = w.at;
-    let n = listing_end(t, v);
+    let n = listing_end(t, m, i);
     if n == 0 {
         return w;
     }
     let draw = xorshift(w.state);
-    let j = drawn_hyperedge(t, v, n, draw);
-    to_one_of(layout::members_formed(t, j), v, draw)
+    let j = drawn_hyperedge(t, m, i, n, draw);
+    to_one_of(layout::members_formed(t, j), w.at, draw)
+}
+
+fn step(t: &[u32], m: &[u8; 65536], w: Walker) -> Walker
+    requires { ⌜ Formed limit (now t) ⌝ }
+    requires { ⌜ Members (now t) (now m) ⌝ }
+    ensures { λ r. ⌜ r ≡ move (read limit (now (t .entry))) w ⌝ }
+{
+    let f = layout::find_vertex(t, VertexIndex(w.at));
+    match f {
+        Found::Nothing => w,
+        Found::At(i) => step_from(t, m, i, w),
+    }
 }
 
 // Writes the first n vertices from w on.
-fn write_walk(t: &[u32], w: Walker, n: usize, out: &mut [u32])
+fn write_walk(t: &[u32], m: &[u8; 65536], w: Walker, n: usize, out: &mut [u32])
     requires { ⌜ Formed limit (now t) ⌝ }
-    requires { ⌜ n ≤ length (now out) ⌝ }
+    requires { ⌜ (n ≤ length (now out)) × Members (now t) (now m) ⌝ }
     ensures { λ _. ⌜ now (out .exit) ≡ over (walkFrom (read limit (now (t .entry))) w n) (now (out .entry)) ⌝ }
 {
     let mut at = w.at;
@@ -258,7 +268,7 @@ fn write_walk(t: &[u32], w: Walker, n: usize, out: &mut [u32])
     let mut i = 0;
     while i < n {
         out[i] = at;
-        let next = step(t, Walker { at, state });
+        let next = step(t, m, Walker { at, state });
         at = next.at;
         state = next.state;
         i += 1;
@@ -291,8 +301,10 @@ fn list_walk(t: &[u32], start: u32, steps: usize, seed: u64, out: &mut [u32]) ->
     if out.len() < n {
         return Answer::NoRoom(n);
     }
+    let mut m = [0u8; 65536];
+    membership::member_matrix(t, &mut m);
     let state = first_state(seed);
-    write_walk(t, Walker { at: start, state }, n, out);
+    write_walk(t, &m, Walker { at: start, state }, n, out);
     Answer::Done(n)
 }
 

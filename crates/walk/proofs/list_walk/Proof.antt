@@ -13,6 +13,9 @@ add-n c = search needs
 returns : tie.Need-returns
 returns c = search walk-over
 
+member-matrix-requires : tie.Need-member-matrix-requires
+member-matrix-requires c κs = search needs
+
 first-state-requires : tie.Need-first-state-requires
 first-state-requires c κs = search needs
 
@@ -32,6 +35,7 @@ list-walk-spec =
     cut-requires
     add-n
     returns
+    member-matrix-requires
     first-state-requires
     write-walk-requires
     same-length

@@ -3,6 +3,7 @@ use mathlib.Core.Path.{_≡_}
 use Prim.Native.Nat.{_≤_}
 use Rattle.layout.specs.Content.{hyperedgesOf}
 use Rattle.layout.specs.Layout.{limit, hyperedgeCount, read}
+use Rattle.steps.specs.Matrices.{numberOf}
 use Rattle.walk.specs.Passes.{listing}
 use Rattle.walk.proofs.Listing.{listing-all, ends-here, ends-on, ends-none}
 use borrow.Author.Needs.{needs}
@@ -10,10 +11,10 @@ use Rattle.walk.proofs.listing_end.Statement.{statement}
 use Rattle.walk.proofs.listing_end.Tie as tie
 
 abbrev Inv-loop : tie.InvT-loop
-Inv-loop t v n₀ n = (n ≤ hyperedgeCount t) × (listing t v n ≡ hyperedgesOf (read limit t) v)
+Inv-loop t m i n₀ n = (n ≤ hyperedgeCount t) × (listing t (numberOf (read limit t) i) n ≡ hyperedgesOf (read limit t) (numberOf (read limit t) i))
 
 abbrev μ-loop : tie.MeasureT-loop
-μ-loop t v n₀ n = n
+μ-loop t m i n₀ n = n
 
 hyperedge-count-requires : tie.Need-hyperedge-count-requires Inv-loop μ-loop
 hyperedge-count-requires c κs = search needs
@@ -21,11 +22,17 @@ hyperedge-count-requires c κs = search needs
 loop-holds : tie.Need-loop-holds Inv-loop μ-loop
 loop-holds c = (search needs, search listing-all)
 
-sub-record-lists : tie.Need-sub-record-lists Inv-loop μ-loop
-sub-record-lists c = search needs
+mul-if1 : tie.Need-mul-if1 Inv-loop μ-loop
+mul-if1 c = search needs
 
-record-lists-requires : tie.Need-record-lists-requires Inv-loop μ-loop
-record-lists-requires c κs = search needs
+sub-if1 : tie.Need-sub-if1 Inv-loop μ-loop
+sub-if1 c = search needs
+
+add-if1 : tie.Need-add-if1 Inv-loop μ-loop
+add-if1 c = search needs
+
+element-copy-out-if1 : tie.Need-element-copy-out-if1 Inv-loop μ-loop
+element-copy-out-if1 c = search needs
 
 returns : tie.Need-returns Inv-loop μ-loop
 returns c = search ends-here
@@ -50,8 +57,10 @@ listing-end-spec =
     μ-loop
     hyperedge-count-requires
     loop-holds
-    sub-record-lists
-    record-lists-requires
+    mul-if1
+    sub-if1
+    add-if1
+    element-copy-out-if1
     returns
     sub-n
     loop-less

@@ -1,21 +1,29 @@
 -- `walk::mark_listing` meets its contract. Assumes nothing.
 use Prim.Native.Nat.{_-_}
+use Rattle.layout.specs.Layout.{limit, read}
+use Rattle.steps.specs.Matrices.{numberOf}
 use Rattle.walk.proofs.Listing.{Marked, marked-none, marked-more, marked-end}
 use borrow.Author.Needs.{needs}
 use Rattle.walk.proofs.mark_listing.Statement.{statement}
 use Rattle.walk.proofs.mark_listing.Tie as tie
 
 abbrev Inv-loop : tie.InvT-loop
-Inv-loop t v n marks₀ j₀ marks j = Marked t v n marks j
+Inv-loop t m i n marks₀ j₀ marks j = Marked t (numberOf (read limit t) i) n marks j
 
 abbrev μ-loop : tie.MeasureT-loop
-μ-loop t v n marks₀ j₀ marks j = n - j
+μ-loop t m i n marks₀ j₀ marks j = n - j
 
 loop-holds : tie.Need-loop-holds Inv-loop μ-loop
 loop-holds c = marked-none _ _ _ _ (search needs)
 
-record-lists-requires : tie.Need-record-lists-requires Inv-loop μ-loop
-record-lists-requires c κs = search needs
+mul-marks : tie.Need-mul-marks Inv-loop μ-loop
+mul-marks c = search needs
+
+add-marks : tie.Need-add-marks Inv-loop μ-loop
+add-marks c = search needs
+
+element-copy-out-marks : tie.Need-element-copy-out-marks Inv-loop μ-loop
+element-copy-out-marks c = search needs
 
 array-write-marks : tie.Need-array-write-marks Inv-loop μ-loop
 array-write-marks c = search needs
@@ -39,7 +47,9 @@ mark-listing-spec =
     Inv-loop
     μ-loop
     loop-holds
-    record-lists-requires
+    mul-marks
+    add-marks
+    element-copy-out-marks
     array-write-marks
     add-j
     loop-less

@@ -1,38 +1,34 @@
 -- `walk::step` meets its contract. Assumes nothing.
-use Rattle.walk.proofs.Walked.{move-none, move-one}
+use Rattle.walk.proofs.Walked.{move-dead, found-here}
 use borrow.Author.Needs.{needs}
 use Rattle.walk.proofs.step.Statement.{statement}
 use Rattle.walk.proofs.step.Tie as tie
 
-listing-end-requires : tie.Need-listing-end-requires
-listing-end-requires c κs = search needs
+find-vertex-requires : tie.Need-find-vertex-requires
+find-vertex-requires c κs = search needs
+
+enum-told : tie.Need-enum-told
+enum-told c = search needs
+
+enum-known-f : tie.Need-enum-known-f
+enum-known-f c = search needs
+
+step-from-requires : tie.Need-step-from-requires
+step-from-requires c κs = (search needs, (search found-here, search needs))
 
 returns : tie.Need-returns
-returns c = search move-none
-
-xorshift-requires : tie.Need-xorshift-requires
-xorshift-requires c κs = search needs
-
-drawn-hyperedge-requires : tie.Need-drawn-hyperedge-requires
-drawn-hyperedge-requires c κs = search needs
-
-members-formed-requires : tie.Need-members-formed-requires
-members-formed-requires c κs = search needs
-
-to-one-of-requires : tie.Need-to-one-of-requires
-to-one-of-requires c κs = search needs
+returns c = search move-dead
 
 returns-2 : tie.Need-returns-2
-returns-2 c = search move-one
+returns-2 c = search needs
 
 pub step-spec : {M : Type 1} → statement M
 step-spec =
     tie.close
     (tie.spec
-    listing-end-requires
+    find-vertex-requires
+    enum-told
+    enum-known-f
+    step-from-requires
     returns
-    xorshift-requires
-    drawn-hyperedge-requires
-    members-formed-requires
-    to-one-of-requires
     returns-2)

@@ -4,8 +4,8 @@ use borrow.Author.Needs.{needs}
 use Rattle.walk.proofs.to_one_of.Statement.{statement}
 use Rattle.walk.proofs.to_one_of.Tie as tie
 
-count-others-requires : tie.Need-count-others-requires
-count-others-requires c κs = search needs
+list-others-requires : tie.Need-list-others-requires
+list-others-requires c κs = search needs
 
 returns : tie.Need-returns
 returns c = search stays
@@ -16,8 +16,8 @@ xorshift-requires c κs = search needs
 rem-k : tie.Need-rem-k
 rem-k c = search needs
 
-other-at-requires : tie.Need-other-at-requires
-other-at-requires c κs = search picked-below
+pick-requires : tie.Need-pick-requires
+pick-requires c κs = search picked-below
 
 returns-2 : tie.Need-returns-2
 returns-2 c = search goes
@@ -25,4 +25,10 @@ returns-2 c = search goes
 pub to-one-of-spec : {M : Type 1} → statement M
 to-one-of-spec =
     tie.close
-    (tie.spec count-others-requires returns xorshift-requires rem-k other-at-requires returns-2)
+    (tie.spec
+    list-others-requires
+    returns
+    xorshift-requires
+    rem-k
+    pick-requires
+    returns-2)

@@ -8,10 +8,10 @@ use Rattle.walk.proofs.write_walk.Statement.{statement}
 use Rattle.walk.proofs.write_walk.Tie as tie
 
 abbrev Inv-loop : tie.InvT-loop
-Inv-loop t n out₀ at₀ state₀ i₀ out at state i = Wrote (read limit t) (walker at₀ state₀) n out₀ at state i out
+Inv-loop t m n out₀ at₀ state₀ i₀ out at state i = Wrote (read limit t) (walker at₀ state₀) n out₀ at state i out
 
 abbrev μ-loop : tie.MeasureT-loop
-μ-loop t n out₀ at₀ state₀ i₀ out at state i = n - i
+μ-loop t m n out₀ at₀ state₀ i₀ out at state i = n - i
 
 loop-holds : tie.Need-loop-holds Inv-loop μ-loop
 loop-holds c = wrote-none _ _ _ _
