@@ -11,7 +11,8 @@ ghost use Rattle.layout.specs.WellFormed.{Formed};
 ghost use Rattle.layout.specs.Steps.{stepsOf, isStep};
 ghost use Rattle.layout.specs.Answers.{result, onFormed, listed};
 ghost use Rattle.marks.specs.Marks.{isMarked};
-ghost use Rattle.lookups.specs.Lookups.{turned, relates, isRelated, someOf, with, isOther, noMarks, MarkedBy, end, stepAt, hasEnd, places, degree, weighsAt, hasVertexWeighing};
+ghost use Rattle.lookups.specs.Lookups.{facing, relates, isRelated, end, stepAt, hasEnd, places, degree, hasVertexWeighing};
+ghost use Rattle.lookups.specs.State.{someOf, with, isOther, noMarks, MarkedBy, weighsAt};
 ghost use Rattle.lookups.specs.Results.{relatedResult, degreeResult, connectingResult, weighingResult, fullHyperedgesResult, containsResult, vertexIndexResult};
 
 mod blocks;
@@ -109,7 +110,7 @@ pub fn get_vertex_degree_out(t: &[u32], v: VertexIndex) -> Answer
 fn mark_ends(t: &[u32], ms: &[u32], v: u32, arriving: bool, marks: &mut [bool; 256])
     requires { ⌜ Formed limit (now t) ⌝ }
     requires { ⌜ length (now marks) ≡ vertexLimit ⌝ }
-    ensures { λ _. ⌜ MarkedBy (liveVertices (read limit (now (t .entry)))) (someOf (turned arriving isStep v) (stepsOf (now (ms .entry)))) (now (marks .entry)) (now (marks .exit)) ⌝ }
+    ensures { λ _. ⌜ MarkedBy (liveVertices (read limit (now (t .entry)))) (someOf (facing arriving isStep v) (stepsOf (now (ms .entry)))) (now (marks .entry)) (now (marks .exit)) ⌝ }
 {
     let mut i = 0;
     while i + 1 < ms.len() {

@@ -8,7 +8,7 @@ use lib.ListN.{length, drop}
 use Rattle.layout.specs.Content.{liveVertices}
 use Rattle.layout.specs.Layout.{limit, read}
 use Rattle.layout.specs.Steps.{stepsOf, isStep}
-use Rattle.lookups.specs.Lookups.{turned, stepAt}
+use Rattle.lookups.specs.Lookups.{facing, stepAt}
 use Rattle.lookups.proofs.Places.{steps-more, steps-end}
 use Rattle.lookups.proofs.Marking.{mark-one, Marking, marking-none, marking-more, marking-skip, marking-end, marked-as, step-yes, step-no}
 use borrow.Author.Needs.{needs}
@@ -16,7 +16,7 @@ use Rattle.lookups.proofs.mark_ends.Statement.{statement}
 use Rattle.lookups.proofs.mark_ends.Tie as tie
 
 abbrev Inv-loop : tie.InvT-loop
-Inv-loop t ms v arriving marks₀ i₀ marks i = (i ≤ length ms) × Marking (liveVertices (read limit t)) (turned arriving isStep v) (stepsOf ms) (stepsOf (drop i ms)) marks₀ marks
+Inv-loop t ms v arriving marks₀ i₀ marks i = (i ≤ length ms) × Marking (liveVertices (read limit t)) (facing arriving isStep v) (stepsOf ms) (stepsOf (drop i ms)) marks₀ marks
 
 abbrev μ-loop : tie.MeasureT-loop
 μ-loop t ms v arriving marks₀ i₀ marks i = length ms - i
