@@ -27,7 +27,7 @@ use Rattle.lookups.specs.declared.Relation.the-variants.{From, To, Aroun
 use Rattle.lookups.specs.Lookups.{facing, coMember, relates, end}
 use Rattle.lookups.specs.State.{someOf, with, isOther, noMarks, MarkedBy}
 
-eqb-comm : (a b : ℕ) → eqb a b ≡ eqb b a
+pub eqb-comm : (a b : ℕ) → eqb a b ≡ eqb b a
 eqb-comm a b = on-same a b (λ e. rw e) (λ ne. ne-eqb a b ne ∙ sym (ne-eqb b a (λ q. ne (sym q))))
 
 -- ---- one mark more
@@ -166,7 +166,7 @@ pub no-marks-length : length noMarks ≡ vertexLimit
 unfolding noMarks
 no-marks-length = length-replicate {A = Bool} vertexLimit false
 
-no-mark : (k : ℕ) → k < vertexLimit → isMarked noMarks k ≡ false
+pub no-mark : (k : ℕ) → k < vertexLimit → isMarked noMarks k ≡ false
 unfolding noMarks
 no-mark k h = getD-replicate vertexLimit k false false h
 

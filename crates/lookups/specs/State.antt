@@ -33,6 +33,16 @@ pub record MarkedBy (live : List ℕ) (p : ℕ → Bool) (old new : List Bool) :
   pub sized : length new ≡ length old
   pub each : (k : ℕ) → k < length live → isMarked new k ≡ (isMarked old k || p (getD live k 0))
 
+-- of what was marked, every live vertex that passes the test still is
+pub record KeptBy (live : List ℕ) (p : ℕ → Bool) (old new : List Bool) : Type 0 where
+  pub sized : length new ≡ length old
+  pub each : (k : ℕ) → k < length live → isMarked new k ≡ (isMarked old k and p (getD live k 0))
+
+-- marked are those that were, and that the others mark
+pub record Both (others old new : List Bool) : Type 0 where
+  pub sized : length new ≡ length old
+  pub each : (k : ℕ) → k < vertexLimit → isMarked new k ≡ (isMarked old k and isMarked others k)
+
 -- the mark of each record of a weight
 unfoldable pub weighsAt : ℕ → List ℕ → ℕ → Bool
 weighsAt w ws k = weighs w (vertexAt ws k)

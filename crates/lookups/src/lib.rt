@@ -13,9 +13,10 @@ ghost use Rattle.layout.specs.Answers.{result, onFormed, listed};
 ghost use Rattle.marks.specs.Marks.{isMarked};
 ghost use Rattle.lookups.specs.Lookups.{facing, relates, isRelated, end, stepAt, hasEnd, places, degree, hasVertexWeighing};
 ghost use Rattle.lookups.specs.State.{someOf, with, isOther, noMarks, MarkedBy, weighsAt};
-ghost use Rattle.lookups.specs.Results.{relatedResult, degreeResult, connectingResult, weighingResult, fullHyperedgesResult, containsResult, vertexIndexResult};
+ghost use Rattle.lookups.specs.Results.{relatedResult, degreeResult, connectingResult, intersectionsResult, weighingResult, fullHyperedgesResult, containsResult, vertexIndexResult};
 
 mod blocks;
+mod intersections;
 
 use layout::Answer;
 use layout::Found;
@@ -238,6 +239,16 @@ pub fn get_hyperedges_connecting(
         return Answer::NotWellFormed;
     }
     blocks::list_of_vertex(t, from, Listing::Connecting(from.0, to.0), out)
+}
+
+// The vertices that every hyperedge of the list has as a member.
+pub fn get_hyperedges_intersections(t: &[u32], hyperedges: &[u32], out: &mut [u32]) -> Answer
+    ensures { λ r. ⌜ result r (now (out .exit)) ≡ onFormed (now (t .entry)) (now (out .entry)) (intersectionsResult (now (hyperedges .entry)) (now (out .entry))) ⌝ }
+{
+    if !formed::well_formed(t) {
+        return Answer::NotWellFormed;
+    }
+    intersections::list_shared(t, hyperedges, out)
 }
 
 // The hyperedges of a weight.
