@@ -13,9 +13,10 @@ ghost use Rattle.layout.specs.Answers.{result, onFormed, listed};
 ghost use Rattle.marks.specs.Marks.{isMarked};
 ghost use Rattle.lookups.specs.Lookups.{facing, relates, isRelated, end, stepAt, hasEnd, places, degree, hasVertexWeighing};
 ghost use Rattle.lookups.specs.State.{someOf, with, isOther, noMarks, MarkedBy, weighsAt};
-ghost use Rattle.lookups.specs.Results.{relatedResult, degreeResult, connectingResult, intersectionsResult, weighingResult, fullHyperedgesResult, containsResult, vertexIndexResult};
+ghost use Rattle.lookups.specs.Results.{relatedResult, fullAdjacentResult, degreeResult, connectingResult, intersectionsResult, weighingResult, fullHyperedgesResult, containsResult, vertexIndexResult};
 
 mod blocks;
+mod full_adjacent;
 mod intersections;
 
 use layout::Answer;
@@ -214,6 +215,26 @@ pub fn get_adjacent_vertices_to(t: &[u32], v: VertexIndex, out: &mut [u32]) -> A
         return Answer::NotWellFormed;
     }
     list_related(t, Relation::To, v, out)
+}
+
+// The vertices that a step from the vertex leads to, each with the hyperedges that step there.
+pub fn get_full_adjacent_vertices_from(t: &[u32], v: VertexIndex, out: &mut [u32]) -> Answer
+    ensures { λ r. ⌜ result r (now (out .exit)) ≡ onFormed (now (t .entry)) (now (out .entry)) (fullAdjacentResult false (v .0) (now (out .entry))) ⌝ }
+{
+    if !formed::well_formed(t) {
+        return Answer::NotWellFormed;
+    }
+    full_adjacent::list_full_adjacent(t, v, false, out)
+}
+
+// The vertices from which a step leads to the vertex, each with the hyperedges that step so.
+pub fn get_full_adjacent_vertices_to(t: &[u32], v: VertexIndex, out: &mut [u32]) -> Answer
+    ensures { λ r. ⌜ result r (now (out .exit)) ≡ onFormed (now (t .entry)) (now (out .entry)) (fullAdjacentResult true (v .0) (now (out .entry))) ⌝ }
+{
+    if !formed::well_formed(t) {
+        return Answer::NotWellFormed;
+    }
+    full_adjacent::list_full_adjacent(t, v, true, out)
 }
 
 // The vertices that stand with the vertex in some list.
