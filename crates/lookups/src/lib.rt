@@ -109,15 +109,15 @@ pub fn get_vertex_degree_out(t: &[u32], v: VertexIndex) -> Answer
 }
 
 // Marks the other ends of the steps of a list that have v at the named end.
-fn mark_ends(t: &[u32], ms: &[u32], v: u32, arriving: bool, marks: &mut [bool; 256])
+fn mark_ends(t: &[u32], list: &[u32], v: u32, arriving: bool, marks: &mut [bool; 256])
     requires { ⌜ Formed limit (now t) ⌝ }
     requires { ⌜ length (now marks) ≡ vertexLimit ⌝ }
-    ensures { λ _. ⌜ MarkedBy (liveVertices (read limit (now (t .entry)))) (someOf (facing arriving isStep v) (stepsOf (now (ms .entry)))) (now (marks .entry)) (now (marks .exit)) ⌝ }
+    ensures { λ _. ⌜ MarkedBy (liveVertices (read limit (now (t .entry)))) (someOf (facing arriving isStep v) (stepsOf (now (list .entry)))) (now (marks .entry)) (now (marks .exit)) ⌝ }
 {
     let mut i = 0;
-    while i + 1 < ms.len() {
-        if end_at(ms, i, arriving) == v {
-            marks::mark(t, end_at(ms, i, !arriving), marks);
+    while i + 1 < list.len() {
+        if end_at(list, i, arriving) == v {
+            marks::mark(t, end_at(list, i, !arriving), marks);
         }
         i += 1;
     }
