@@ -15,6 +15,9 @@ reply timed_get_adjacent_vertices_from(T, uint32_t vertex, OUT);
 reply timed_get_vertex_neighborhood(T, uint32_t vertex, OUT);
 reply timed_get_vertex_degree_out(T, uint32_t vertex);
 reply timed_get_hyperedges_connecting(T, uint32_t from, uint32_t to, OUT);
+reply timed_get_full_adjacent_vertices_from(T, uint32_t vertex, OUT);
+reply timed_get_full_adjacent_vertices_to(T, uint32_t vertex, OUT);
+reply timed_get_hyperedges_intersections(T, const uint32_t *hyperedges, size_t count, OUT);
 reply timed_find_hyperedges_by_weight(T, uint32_t weight, OUT);
 reply timed_get_full_vertex_hyperedges(T, uint32_t vertex, OUT);
 reply timed_get_vertex_index(T, uint32_t weight, OUT);
@@ -31,6 +34,7 @@ enum { ROOM = 70000 };
 
 static uint32_t full[WORDS], ascending[WORDS], out[ROOM];
 static uint8_t text[8 * ROOM];
+static const uint32_t pair[2] = {17, 18};
 
 #define ANSWER(what, table, expected, limit_ns, call)                 \
     do {                                                              \
@@ -53,6 +57,9 @@ int main(void) {
     QUERY("vertex_neighborhood", 8000, timed_get_vertex_neighborhood(full, WORDS, 100, out, ROOM));
     QUERY("vertex_degree_out", 8000, timed_get_vertex_degree_out(full, WORDS, 100));
     QUERY("hyperedges_connecting", 8000, timed_get_hyperedges_connecting(full, WORDS, 100, 101, out, ROOM));
+    QUERY("full_adjacent_from", 15000, timed_get_full_adjacent_vertices_from(full, WORDS, 100, out, ROOM));
+    QUERY("full_adjacent_to", 15000, timed_get_full_adjacent_vertices_to(full, WORDS, 100, out, ROOM));
+    QUERY("intersections of 2", 8000, timed_get_hyperedges_intersections(full, WORDS, pair, 2, out, ROOM));
     QUERY("hyperedges_by_weight", 8000, timed_find_hyperedges_by_weight(full, WORDS, 500, out, ROOM));
     QUERY("full_vertex_hyperedges", 15000, timed_get_full_vertex_hyperedges(full, WORDS, 100, out, ROOM));
     QUERY("vertex_index", 8000, timed_get_vertex_index(full, WORDS, 500, out, ROOM));

@@ -196,10 +196,10 @@ unfolding flat tab
 laid-none f g out₀ = record { counted = refl; wrote = sym (over-none out₀); same = refl }
 
 module _ {A : Type 0} (f : A → List ℕ) (g : ℕ → A) where
-  flat-suc : (j : ℕ) → flat f (tab g (suc j)) ≡ flat f (tab g j) ++ f (g j)
+  pub flat-suc : (j : ℕ) → flat f (tab g (suc j)) ≡ flat f (tab g j) ++ f (g j)
   flat-suc j = ap (flat f) (tab-suc g j) ∙ flat-snoc f (tab g j) (g j)
 
-  flat-more : (j : ℕ) → length (flat f (tab g (suc j))) ≡ length (flat f (tab g j)) + length (f (g j))
+  pub flat-more : (j : ℕ) → length (flat f (tab g (suc j))) ≡ length (flat f (tab g j)) + length (f (g j))
   flat-more j = ap length (flat-suc j) ∙ length-append (flat f (tab g j)) (f (g j))
 
   flat-upto : (n j : ℕ) → j ≤ n → length (flat f (tab g j)) ≤ length (flat f (tab g n))

@@ -1,6 +1,9 @@
 pub mod Places
 pub mod Found
 pub mod Marking
+pub mod Shared
 pub mod Laid
+pub mod Tally
+pub mod Full
 pub mod Weights
 pub mod Sheet

@@ -24,9 +24,10 @@ use Rattle.marks.specs.Marks.{isMarked, marking, marked}
 use Rattle.marks.proofs.Marked.{marking-at, marked-filter}
 use Rattle.lookups.specs.declared.Relation.{Relation}
 use Rattle.lookups.specs.declared.Relation.the-variants.{From, To, Around}
-use Rattle.lookups.specs.Lookups.{turned, coMember, relates, someOf, with, isOther, noMarks, MarkedBy, end}
+use Rattle.lookups.specs.Lookups.{facing, coMember, relates, end}
+use Rattle.lookups.specs.State.{someOf, with, isOther, noMarks, MarkedBy}
 
-eqb-comm : (a b : ℕ) → eqb a b ≡ eqb b a
+pub eqb-comm : (a b : ℕ) → eqb a b ≡ eqb b a
 eqb-comm a b = on-same a b (λ e. rw e) (λ ne. ne-eqb a b ne ∙ sym (ne-eqb b a (λ q. ne (sym q))))
 
 -- ---- one mark more
@@ -84,12 +85,12 @@ marked-same {live} {p} {old} h = record { sized = refl; each = λ k l. sym (or-f
 -- ---- the step at a place: z is its end that the code compared with v, x the other
 
 module _ (v : ℕ) (s : Step) where
-  pub step-yes : (arriving : Bool) {z x : ℕ} → z ≡ end arriving s → z ≡ v → x ≡ end (not arriving) s → (y : ℕ) → eqb y x ≡ turned arriving isStep v y s
+  pub step-yes : (arriving : Bool) {z x : ℕ} → z ≡ end arriving s → z ≡ v → x ≡ end (not arriving) s → (y : ℕ) → eqb y x ≡ facing arriving isStep v y s
   unfolding isStep _and_
   step-yes false {z} {x} e h q y = rw (eq-eqb (s .from) v (sym e ∙ h), q) (eqb-comm y (s .to))
   step-yes true {z} {x} e h q y = rw (eq-eqb (s .to) v (sym e ∙ h), q) (eqb-comm y (s .from) ∙ sym (and-true (eqb (s .from) y)))
 
-  pub step-no : (arriving : Bool) {z : ℕ} → z ≡ end arriving s → (z ≡ v → ⊥) → (y : ℕ) → turned arriving isStep v y s ≡ false
+  pub step-no : (arriving : Bool) {z : ℕ} → z ≡ end arriving s → (z ≡ v → ⊥) → (y : ℕ) → facing arriving isStep v y s ≡ false
   unfolding isStep
   step-no false {z} e h y = and-false-left _ _ (ne-eqb (s .from) v (λ q. h (e ∙ q)))
   step-no true {z} e h y = and-false-right _ _ (ne-eqb (s .to) v (λ q. h (e ∙ q)))
@@ -139,12 +140,12 @@ others-are v y (m ∷ ms) = on-same y m
 -- ---- a record: ms is what `members_formed` returned, and the code went by the relation
 
 module _ (L : ℕ) (ws ms : List ℕ) (j : ℕ) (e : ms ≡ membersAt L ws j) (live : List ℕ) (rel : Relation) (v : ℕ) (old : List Bool) where
-  pub marked-from : (new : List Bool) → rel ≡ From → MarkedBy live (someOf (turned false isStep v) (stepsOf ms)) old new
+  pub marked-from : (new : List Bool) → rel ≡ From → MarkedBy live (someOf (facing false isStep v) (stepsOf ms)) old new
       → MarkedBy live (with (relates rel v) (hyperedgeAt L ws j)) old new
   unfolding someOf relates makesStep
   marked-from new h b = rw h (rw e at b)
 
-  pub marked-to : (new : List Bool) → rel ≡ To → MarkedBy live (someOf (turned true isStep v) (stepsOf ms)) old new
+  pub marked-to : (new : List Bool) → rel ≡ To → MarkedBy live (someOf (facing true isStep v) (stepsOf ms)) old new
       → MarkedBy live (with (relates rel v) (hyperedgeAt L ws j)) old new
   unfolding someOf relates makesStep
   marked-to new h b = rw h (rw e at b)
@@ -165,7 +166,7 @@ pub no-marks-length : length noMarks ≡ vertexLimit
 unfolding noMarks
 no-marks-length = length-replicate {A = Bool} vertexLimit false
 
-no-mark : (k : ℕ) → k < vertexLimit → isMarked noMarks k ≡ false
+pub no-mark : (k : ℕ) → k < vertexLimit → isMarked noMarks k ≡ false
 unfolding noMarks
 no-mark k h = getD-replicate vertexLimit k false false h
 

@@ -65,6 +65,16 @@ module _ (p : Step → Bool) (ms : List ℕ) where
   unfolding places
   places-le = omega (arith, filter-length p (stepsOf ms), steps-le ms)
 
+module _ (p : Step → Bool) (ms : List ℕ) (i : ℕ) where
+  pub places-more : (b : Bool) → i + 1 < length ms → p (stepAt ms i) ≡ b → places p (drop i ms) ≡ bit b + places p (drop (i + 1) ms)
+  unfolding places filter
+  places-more true h e = rw (steps-more ms i h, e) (omega arith)
+  places-more false h e = rw (steps-more ms i h, e) (omega arith)
+
+  pub places-none : length ms ≤ i + 1 → places p (drop i ms) ≡ 0
+  unfolding places filter
+  places-none h = ap (λ (ss : List Step). length (filter p ss)) (steps-end ms i h)
+
 -- a loop over i that counts the places: n so far, and those of `drop i ms` are left
 pub record Counted (p : Step → Bool) (ms : List ℕ) (i n : ℕ) : Type 0 where
   pub within : n ≤ i
@@ -74,20 +84,14 @@ pub counted-none : (p : Step → Bool) (ms : List ℕ) → Counted p ms 0 0
 counted-none p ms = record { within = omega arith; left = omega arith }
 
 module _ {p : Step → Bool} {ms : List ℕ} {i n : ℕ} (c : Counted p ms i n) where
-  here : (b : Bool) → i + 1 < length ms → p (stepAt ms i) ≡ b → places p (drop i ms) ≡ bit b + places p (drop (i + 1) ms)
-  unfolding places filter
-  here true h e = rw (steps-more ms i h, e) (omega arith)
-  here false h e = rw (steps-more ms i h, e) (omega arith)
-
   pub counted-yes : {more : ℕ} → i + 1 < length ms → p (stepAt ms i) ≡ true → more ≡ n + 1 → Counted p ms (i + 1) more
-  counted-yes h e q = record { within = omega (arith, c .within); left = omega (arith, c .left, here true h e) }
+  counted-yes h e q = record { within = omega (arith, c .within); left = omega (arith, c .left, places-more p ms i true h e) }
 
   pub counted-no : {more : ℕ} → i + 1 < length ms → p (stepAt ms i) ≡ false → more ≡ n → Counted p ms (i + 1) more
-  counted-no h e q = record { within = omega (arith, c .within); left = omega (arith, c .left, here false h e) }
+  counted-no h e q = record { within = omega (arith, c .within); left = omega (arith, c .left, places-more p ms i false h e) }
 
   pub counted-end : length ms ≤ i + 1 → n ≡ places p ms
-  unfolding places filter
-  counted-end h = omega (arith, c .left, ap (λ (ss : List Step). length (filter p ss)) (steps-end ms i h))
+  counted-end h = omega (arith, c .left, places-none p ms i h)
 
 -- a loop over j along m records has none left
 records-end : {A : Type 0} (g : ℕ → A) (m j : ℕ) → m ≤ j → drop j (tab g m) ≡ []

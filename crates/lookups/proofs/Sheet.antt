@@ -4,12 +4,12 @@ use mathlib.Core.Bool.{true, false}
 use mathlib.Core.List.{List, [], _∷_}
 use Prim.Native.Nat.{ℕ}
 use Rattle.lists.specs.Tests.{_and_}
-use Rattle.lists.specs.Lists.{any, filter, flat}
+use Rattle.lists.specs.Lists.{all, any, filter, flat}
 use Rattle.layout.specs.Content.{Vertex, Hyperedge, Table}
 use Rattle.layout.specs.Steps.{stepsOf, isStep, makesStep, hasStep}
 use Rattle.lookups.specs.declared.Relation.the-variants.{From, To, Around}
 use Rattle.lookups.specs.declared.Listing.the-variants.{Connecting, Weighing, Holding}
-use Rattle.lookups.specs.Lookups.{coMember, relates, isRelated, related, hasEnd, places, placesIn, sum, degree, held, block, listing, weighs, verticesWeighing}
+use Rattle.lookups.specs.Lookups.{coMember, relates, isRelated, related, isMemberOf, hasMember, isShared, shared, hasEnd, places, placesIn, sum, degree, held, block, listing, connecting, adjacentEntry, fullAdjacent, weighs, verticesWeighing}
 
 vertex : ℕ → Vertex
 vertex n = record { number = n; weight = n }
@@ -79,6 +79,29 @@ holding = refl
 pub index : verticesWeighing 3 G ≡ 3 ∷ []
 unfolding G table vertex edge verticesWeighing weighs filter
 index = refl
+
+-- of the hyperedges 0 and 2 of G, 2 is a member of both; a list may name a hyperedge twice
+pub intersection : shared (0 ∷ 2 ∷ []) G ≡ 2 ∷ []
+unfolding G table vertex edge shared isShared hasMember isMemberOf filter all any _and_
+intersection = refl
+
+pub intersection-repeated : shared (1 ∷ 1 ∷ []) G ≡ 0 ∷ 3 ∷ []
+unfolding G table vertex edge shared isShared hasMember isMemberOf filter all any _and_
+intersection-repeated = refl
+
+-- each adjacent vertex, its count, its hyperedges: from 0 in G, and to 1 in K
+pub full-after : fullAdjacent false 0 G ≡ 1 ∷ 1 ∷ 0 ∷ 3 ∷ 1 ∷ 1 ∷ []
+unfolding G table vertex edge fullAdjacent adjacentEntry connecting related isRelated relates makesStep listing flat block placesIn places filter any stepsOf isStep _and_
+full-after = refl
+
+pub full-before : fullAdjacent true 1 K ≡ 0 ∷ 3 ∷ 0 ∷ 1 ∷ 2 ∷ []
+unfolding K table vertex edge fullAdjacent adjacentEntry connecting related isRelated relates makesStep listing flat block placesIn places filter any stepsOf isStep _and_
+full-before = refl
+
+-- the one list of P8 steps from 0 to 1 twice
+pub full-repeated : fullAdjacent false 0 Repeated ≡ 1 ∷ 2 ∷ 0 ∷ 0 ∷ []
+unfolding Repeated table vertex edge fullAdjacent adjacentEntry connecting related isRelated relates makesStep listing flat block placesIn places filter any stepsOf isStep _and_
+full-repeated = refl
 
 pub connected : listing (Connecting 0 1) K ≡ 0 ∷ 1 ∷ 2 ∷ []
 unfolding K table vertex edge listing flat block placesIn places filter stepsOf isStep _and_

@@ -20,7 +20,8 @@ use Rattle.layout.specs.Layout.{vertexLimit, vertexCount, vertexAt, readVertice
 use Rattle.layout.specs.Answers.{Result, result, listed}
 use Rattle.layout.proofs.Read.{live-length, live-at}
 use Rattle.marks.specs.Marks.{isMarked, numberAt, marked}
-use Rattle.lookups.specs.Lookups.{weighs, weighsAt, verticesWeighing}
+use Rattle.lookups.specs.Lookups.{weighs, verticesWeighing}
+use Rattle.lookups.specs.State.{weighsAt}
 
 -- ---- a loop over k that marks the records of a weight
 

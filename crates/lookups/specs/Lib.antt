@@ -1,2 +1,3 @@
 pub mod Lookups
+pub mod State
 pub mod Results

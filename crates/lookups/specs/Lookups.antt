@@ -1,16 +1,13 @@
 -- What each lookup counts or lists, over a table's content. Assumes nothing.
-use mathlib.Core.Path.{_≡_}
-use mathlib.Core.Bool.{Bool, true, false, not, cond, _||_}
+use mathlib.Core.Bool.{Bool, true, false, not, cond}
 use mathlib.Core.List.{List, [], _∷_, map}
-use Prim.Native.Nat.{ℕ, _+_, _<_}
+use Prim.Native.Nat.{ℕ, _+_}
 use lib.Dec.{eqb}
 use lib.ListN.{length, getD, replicate}
 use Rattle.lists.specs.Tests.{_and_}
-use Rattle.lists.specs.Lists.{any, memb, filter, flat}
+use Rattle.lists.specs.Lists.{all, any, memb, filter, flat}
 use Rattle.layout.specs.Content.{Vertex, Hyperedge, Table, liveVertices, vertexNumber, lists}
-use Rattle.layout.specs.Layout.{vertexLimit, vertexAt}
 use Rattle.layout.specs.Steps.{Step, stepsOf, isStep, makesStep}
-use Rattle.marks.specs.Marks.{isMarked}
 use Rattle.lookups.specs.declared.Relation.{Relation}
 use Rattle.lookups.specs.declared.Relation.the-variants.{From, To, Around}
 use Rattle.lookups.specs.declared.Listing.{Listing}
@@ -18,10 +15,10 @@ use Rattle.lookups.specs.declared.Listing.the-variants.{Connecting, Weig
 
 -- ---- vertices that a hyperedge relates to v
 
--- read forward, or turned
-abbrev pub turned : {A : Type 0} → Bool → (ℕ → ℕ → A) → ℕ → ℕ → A
-turned false f v y = f v y
-turned true f v y = f y v
+-- read as it stands, or with the two turned round
+abbrev pub facing : {A : Type 0} → Bool → (ℕ → ℕ → A) → ℕ → ℕ → A
+facing false f v y = f v y
+facing true f v y = f y v
 
 -- a co-member other than the vertex
 unfoldable pub coMember : ℕ → ℕ → Hyperedge → Bool
@@ -40,27 +37,22 @@ isRelated rel t v y = any (relates rel v y) (t .hyperedges)
 unfoldable pub related : Relation → ℕ → Table → List ℕ
 related rel v t = filter (isRelated rel t v) (liveVertices t)
 
--- ---- marks
+-- ---- vertices that several hyperedges share
 
--- y passes with some element of the list, or with x
-unfoldable pub someOf : {A : Type 0} → (ℕ → A → Bool) → List A → ℕ → Bool
-someOf r xs y = any (r y) xs
+-- hyperedge x has y as a member
+unfoldable pub isMemberOf : ℕ → ℕ → Hyperedge → Bool
+isMemberOf y x e = eqb (e .number) x and lists y e
 
-abbrev pub with : {A : Type 0} → (ℕ → A → Bool) → A → ℕ → Bool
-with r x y = r y x
+unfoldable pub hasMember : Table → ℕ → ℕ → Bool
+hasMember t y x = any (isMemberOf y x) (t .hyperedges)
 
--- member m is y, and is not v
-unfoldable pub isOther : ℕ → ℕ → ℕ → Bool
-isOther v y m = eqb y m and not (eqb m v)
+-- every hyperedge of the list has y as a member
+unfoldable pub isShared : Table → List ℕ → ℕ → Bool
+isShared t xs y = all (hasMember t y) xs
 
--- no vertex is marked
-unfoldable pub noMarks : List Bool
-noMarks = replicate vertexLimit false
-
--- what was marked still is, and besides every live vertex that passes the test
-pub record MarkedBy (live : List ℕ) (p : ℕ → Bool) (old new : List Bool) : Type 0 where
-  pub sized : length new ≡ length old
-  pub each : (k : ℕ) → k < length live → isMarked new k ≡ (isMarked old k || p (getD live k 0))
+-- distinct, ascending
+unfoldable pub shared : List ℕ → Table → List ℕ
+shared xs t = filter (isShared t xs) (liveVertices t)
 
 -- ---- places
 
@@ -110,6 +102,24 @@ blockLength q e = length (block q e)
 unfoldable pub listing : Listing → Table → List ℕ
 listing q t = flat (block q) (t .hyperedges)
 
+-- ---- full listings of adjacent vertices
+
+-- the hyperedges that step from v to y, or from y to v, once for each place
+unfoldable pub connecting : Bool → Table → ℕ → ℕ → List ℕ
+connecting arriving t v y = listing (facing arriving Connecting v y) t
+
+-- vertex, count, hyperedges
+unfoldable pub adjacentEntry : Bool → Table → ℕ → ℕ → List ℕ
+adjacentEntry arriving t v y = let es = connecting arriving t v y in y ∷ length es ∷ es
+
+abbrev pub adjacency : Bool → Relation
+adjacency false = From
+adjacency true = To
+
+-- each adjacent vertex, ascending
+unfoldable pub fullAdjacent : Bool → ℕ → Table → List ℕ
+fullAdjacent arriving v t = flat (adjacentEntry arriving t v) (related (adjacency arriving) v t)
+
 -- ---- vertices of a weight
 
 unfoldable pub weighs : ℕ → Vertex → Bool
@@ -121,7 +131,3 @@ verticesWeighing w t = map vertexNumber (filter (weighs w) (t .vertices))
 
 unfoldable pub hasVertexWeighing : ℕ → Table → Bool
 hasVertexWeighing w t = any (weighs w) (t .vertices)
-
--- the mark of each record of a weight
-unfoldable pub weighsAt : ℕ → List ℕ → ℕ → Bool
-weighsAt w ws k = weighs w (vertexAt ws k)

@@ -11,10 +11,13 @@ ghost use Rattle.layout.specs.WellFormed.{Formed};
 ghost use Rattle.layout.specs.Steps.{stepsOf, isStep};
 ghost use Rattle.layout.specs.Answers.{result, onFormed, listed};
 ghost use Rattle.marks.specs.Marks.{isMarked};
-ghost use Rattle.lookups.specs.Lookups.{turned, relates, isRelated, someOf, with, isOther, noMarks, MarkedBy, end, stepAt, hasEnd, places, degree, weighsAt, hasVertexWeighing};
-ghost use Rattle.lookups.specs.Results.{relatedResult, degreeResult, connectingResult, weighingResult, fullHyperedgesResult, containsResult, vertexIndexResult};
+ghost use Rattle.lookups.specs.Lookups.{facing, relates, isRelated, end, stepAt, hasEnd, places, degree, hasVertexWeighing};
+ghost use Rattle.lookups.specs.State.{someOf, with, isOther, noMarks, MarkedBy, weighsAt};
+ghost use Rattle.lookups.specs.Results.{relatedResult, fullAdjacentResult, degreeResult, connectingResult, intersectionsResult, weighingResult, fullHyperedgesResult, containsResult, vertexIndexResult};
 
 mod blocks;
+mod full_adjacent;
+mod intersections;
 
 use layout::Answer;
 use layout::Found;
@@ -106,15 +109,15 @@ pub fn get_vertex_degree_out(t: &[u32], v: VertexIndex) -> Answer
 }
 
 // Marks the other ends of the steps of a list that have v at the named end.
-fn mark_ends(t: &[u32], ms: &[u32], v: u32, arriving: bool, marks: &mut [bool; 256])
+fn mark_ends(t: &[u32], list: &[u32], v: u32, arriving: bool, marks: &mut [bool; 256])
     requires { ⌜ Formed limit (now t) ⌝ }
     requires { ⌜ length (now marks) ≡ vertexLimit ⌝ }
-    ensures { λ _. ⌜ MarkedBy (liveVertices (read limit (now (t .entry)))) (someOf (turned arriving isStep v) (stepsOf (now (ms .entry)))) (now (marks .entry)) (now (marks .exit)) ⌝ }
+    ensures { λ _. ⌜ MarkedBy (liveVertices (read limit (now (t .entry)))) (someOf (facing arriving isStep v) (stepsOf (now (list .entry)))) (now (marks .entry)) (now (marks .exit)) ⌝ }
 {
     let mut i = 0;
-    while i + 1 < ms.len() {
-        if end_at(ms, i, arriving) == v {
-            marks::mark(t, end_at(ms, i, !arriving), marks);
+    while i + 1 < list.len() {
+        if end_at(list, i, arriving) == v {
+            marks::mark(t, end_at(list, i, !arriving), marks);
         }
         i += 1;
     }
@@ -214,6 +217,26 @@ pub fn get_adjacent_vertices_to(t: &[u32], v: VertexIndex, out: &mut [u32]) -> A
     list_related(t, Relation::To, v, out)
 }
 
+// The vertices that a step from the vertex leads to, each with the hyperedges that step there.
+pub fn get_full_adjacent_vertices_from(t: &[u32], v: VertexIndex, out: &mut [u32]) -> Answer
+    ensures { λ r. ⌜ result r (now (out .exit)) ≡ onFormed (now (t .entry)) (now (out .entry)) (fullAdjacentResult false (v .0) (now (out .entry))) ⌝ }
+{
+    if !formed::well_formed(t) {
+        return Answer::NotWellFormed;
+    }
+    full_adjacent::list_full_adjacent(t, v, false, out)
+}
+
+// The vertices from which a step leads to the vertex, each with the hyperedges that step so.
+pub fn get_full_adjacent_vertices_to(t: &[u32], v: VertexIndex, out: &mut [u32]) -> Answer
+    ensures { λ r. ⌜ result r (now (out .exit)) ≡ onFormed (now (t .entry)) (now (out .entry)) (fullAdjacentResult true (v .0) (now (out .entry))) ⌝ }
+{
+    if !formed::well_formed(t) {
+        return Answer::NotWellFormed;
+    }
+    full_adjacent::list_full_adjacent(t, v, true, out)
+}
+
 // The vertices that stand with the vertex in some list.
 pub fn get_vertex_neighborhood(t: &[u32], v: VertexIndex, out: &mut [u32]) -> Answer
     ensures { λ r. ⌜ result r (now (out .exit)) ≡ onFormed (now (t .entry)) (now (out .entry)) (relatedResult Relation.Around (v .0) (now (out .entry))) ⌝ }
@@ -237,6 +260,16 @@ pub fn get_hyperedges_connecting(
         return Answer::NotWellFormed;
     }
     blocks::list_of_vertex(t, from, Listing::Connecting(from.0, to.0), out)
+}
+
+// The vertices that every hyperedge of the list has as a member.
+pub fn get_hyperedges_intersections(t: &[u32], hyperedges: &[u32], out: &mut [u32]) -> Answer
+    ensures { λ r. ⌜ result r (now (out .exit)) ≡ onFormed (now (t .entry)) (now (out .entry)) (intersectionsResult (now (hyperedges .entry)) (now (out .entry))) ⌝ }
+{
+    if !formed::well_formed(t) {
+        return Answer::NotWellFormed;
+    }
+    intersections::list_shared(t, hyperedges, out)
 }
 
 // The hyperedges of a weight.

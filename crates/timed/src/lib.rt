@@ -76,6 +76,33 @@ pub extern "C" fn timed_get_hyperedges_connecting(
 }
 
 #[no_mangle]
+pub extern "C" fn timed_get_full_adjacent_vertices_from(
+    t: &[u32],
+    v: VertexIndex,
+    out: &mut [u32],
+) -> Reply {
+    layout::reply_of(lookups::get_full_adjacent_vertices_from(t, v, out))
+}
+
+#[no_mangle]
+pub extern "C" fn timed_get_full_adjacent_vertices_to(
+    t: &[u32],
+    v: VertexIndex,
+    out: &mut [u32],
+) -> Reply {
+    layout::reply_of(lookups::get_full_adjacent_vertices_to(t, v, out))
+}
+
+#[no_mangle]
+pub extern "C" fn timed_get_hyperedges_intersections(
+    t: &[u32],
+    hyperedges: &[u32],
+    out: &mut [u32],
+) -> Reply {
+    layout::reply_of(lookups::get_hyperedges_intersections(t, hyperedges, out))
+}
+
+#[no_mangle]
 pub extern "C" fn timed_find_hyperedges_by_weight(
     t: &[u32],
     weight: u32,

@@ -8,7 +8,7 @@ use lib.ListN.{length, drop}
 use Rattle.layout.specs.Content.{liveVertices}
 use Rattle.layout.specs.Layout.{limit, read}
 use Rattle.layout.specs.Steps.{stepsOf, isStep}
-use Rattle.lookups.specs.Lookups.{turned, stepAt}
+use Rattle.lookups.specs.Lookups.{facing, stepAt}
 use Rattle.lookups.proofs.Places.{steps-more, steps-end}
 use Rattle.lookups.proofs.Marking.{mark-one, Marking, marking-none, marking-more, marking-skip, marking-end, marked-as, step-yes, step-no}
 use borrow.Author.Needs.{needs}
@@ -16,10 +16,10 @@ use Rattle.lookups.proofs.mark_ends.Statement.{statement}
 use Rattle.lookups.proofs.mark_ends.Tie as tie
 
 abbrev Inv-loop : tie.InvT-loop
-Inv-loop t ms v arriving marks₀ i₀ marks i = (i ≤ length ms) × Marking (liveVertices (read limit t)) (turned arriving isStep v) (stepsOf ms) (stepsOf (drop i ms)) marks₀ marks
+Inv-loop t list v arriving marks₀ i₀ marks i = (i ≤ length list) × Marking (liveVertices (read limit t)) (facing arriving isStep v) (stepsOf list) (stepsOf (drop i list)) marks₀ marks
 
 abbrev μ-loop : tie.MeasureT-loop
-μ-loop t ms v arriving marks₀ i₀ marks i = length ms - i
+μ-loop t list v arriving marks₀ i₀ marks i = length list - i
 
 loop-holds : tie.Need-loop-holds Inv-loop μ-loop
 loop-holds c = (search needs, marking-none _ _ _ _)
@@ -45,7 +45,7 @@ loop-less c = search needs
 loop-again : tie.Need-loop-again Inv-loop μ-loop
 loop-again c =
     let l = c .before .before .before in let s = l .before .before .before in let h = c .before .before .loop-test .taken in
-    let e = c .before .end-at .ensures in let p = stepAt (now (s .args .ms)) (l .loop .i) in (
+    let e = c .before .end-at .ensures in let p = stepAt (now (s .args .list)) (l .loop .i) in (
       omega arith,
       ⊎-elim
           (λ w. marking-more (l .loop .inv .1) (steps-more _ _ h)

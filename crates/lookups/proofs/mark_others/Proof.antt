@@ -7,7 +7,7 @@ use denote.Ref.{now}
 use lib.ListN.{length, drop}
 use Rattle.layout.specs.Content.{liveVertices}
 use Rattle.layout.specs.Layout.{limit, read}
-use Rattle.lookups.specs.Lookups.{isOther}
+use Rattle.lookups.specs.State.{isOther}
 use Rattle.lookups.proofs.Marking.{mark-one, Marking, marking-none, marking-more, marking-skip, marking-end, marked-as, drop-more, drop-none, other-yes, other-no}
 use borrow.Author.Needs.{needs}
 use Rattle.lookups.proofs.mark_others.Statement.{statement}
