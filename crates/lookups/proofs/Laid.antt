@@ -1,6 +1,6 @@
 -- Laws of words written from the front of a slice, and of blocks of words laid one after the other. Assumes nothing.
 use mathlib.Core.Path.{_≡_, refl, sym, ap, ap₂, _∙_}
-use mathlib.Core.Bool.{Bool, true, false, not}
+use mathlib.Core.Bool.{Bool, true, false, not, _&&_}
 use mathlib.Core.List.{List, [], _∷_, _++_}
 use Prim.Native.Nat.{ℕ, zero, suc, _+_, _-_, _≤_, _<_}
 use native.Mathlib.Nat.{mul-le-mul-right, le-antisymm}
@@ -12,7 +12,7 @@ use lib.Seq.{drop-cons, take-suc, take-all, length-take-le}
 use borrow.Author.Tests.{eq-eqb, ne-eqb, not-true, not-false}
 use Rattle.lists.specs.Tests.{_and_}
 use Rattle.lists.specs.Lists.{over, memb, flat, tab}
-use Rattle.lists.proofs.Cases.{on, on-same, and-false-left}
+use Rattle.lists.proofs.Cases.{on, on-same}
 use Rattle.lists.proofs.Stride.{stride}
 use Rattle.lists.proofs.Parts.{part-count, part-tail, back-tail}
 use Rattle.lists.proofs.Tab.{tab-suc}
@@ -30,14 +30,9 @@ use Rattle.lookups.proofs.Places.{places-le}
 
 -- ---- the step at place i: the code compared its first end with x, and then its second with y
 
-module _ (ms : List ℕ) (i x y : ℕ) where
-  pub not-step : (getD ms i 0 ≡ x → ⊥) → false ≡ isStep x y (stepAt ms i)
-  unfolding isStep
-  not-step h = sym (and-false-left _ _ (ne-eqb _ _ h))
-
-  pub step-if : getD ms i 0 ≡ x → eqb (getD ms (i + 1) 0) y ≡ isStep x y (stepAt ms i)
-  unfolding isStep _and_
-  step-if h = rw (eq-eqb _ _ h)
+pub step-is : (ms : List ℕ) (i x y : ℕ) → (eqb (getD ms i 0) x && eqb (getD ms (i + 1) 0) y) ≡ isStep x y (stepAt ms i)
+unfolding isStep _and_
+step-is ms i x y = on (eqb (getD ms i 0) x) (λ e. rw e) (λ e. rw e)
 
 -- ---- a loop over i that writes xs from the front of out₀, one word a turn
 

@@ -15,15 +15,12 @@ use layout::Answer;
 use layout::Found;
 use layout::VertexIndex;
 
-// The step at place i is x to y.
+// The step at place i is x to y. Both words are read, so that the compiler can take several places at a time.
 fn is_step(ms: &[u32], i: usize, x: u32, y: u32) -> bool
     requires { ⌜ i + 1 < length (now ms) ⌝ }
     ensures { λ r. ⌜ r ≡ isStep x y (stepAt (now (ms .entry)) i) ⌝ }
 {
-    if ms[i] != x {
-        return false;
-    }
-    ms[i + 1] == y
+    (ms[i] == x) & (ms[i + 1] == y)
 }
 
 // The places of a list at which the step is x to y.
