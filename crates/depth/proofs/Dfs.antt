@@ -9,7 +9,7 @@ use lib.Dec.{eqb}
 use lib.ListN.{length, getD, set}
 use lib.Seq.{getD-set-same, getD-set-other}
 use Rattle.lists.proofs.Count.{count-flip}
-use Rattle.depth.specs.Dfs.{St, unmarked, free, mark, finish, tried, tries, visits}
+use Rattle.depth.specs.Dfs.{St, unmarked, free, mark, enlist, tried, tries, visits}
 
 -- one number fewer is not marked
 pub free-mark : (n x : ℕ) (m : List ℕ) → x < n → x < length m → getD m x 0 ≡ 0 → free n m ≡ suc (free n (set m x 1))
@@ -43,7 +43,7 @@ module _ (E : ℕ → ℕ → Bool) (v : ℕ → St → St) where
   unfolding tries
   tries-end x s = refl
 
-pub visits-more : (E : ℕ → ℕ → Bool) (n f x : ℕ) (s : St) → 0 < f → visits E n f x s ≡ finish x (tries E (visits E n (f - 1)) x n (mark x s))
+pub visits-more : (E : ℕ → ℕ → Bool) (n f x : ℕ) (s : St) → 0 < f → visits E n f x s ≡ enlist x (tries E (visits E n (f - 1)) x n (mark x s))
 unfolding visits
 visits-more E n f x s l =
     let e : f ≡ suc (f - 1) = omega arith in

@@ -12,7 +12,7 @@ use lib.ListN.{length, getD, replicate, length-set, length-replicate, getD-repli
 use lib.Seq.{getD-set-same, getD-set-other}
 use borrow.Author.Tests.{eq-eqb}
 use Rattle.depth.proofs.Dfs.{tried-none, tried-marked, tried-new}
-use Rattle.depth.specs.Dfs.{St, unmarked, mark, finish, tried, tries, visits}
+use Rattle.depth.specs.Dfs.{St, unmarked, mark, enlist, tried, tries, visits}
 use Rattle.lists.proofs.Cases.{on, on-same, clash, or-true, or-right}
 use Rattle.lists.proofs.Memb.{memb-append, memb-self, memb-snoc, memb-snoc-self, memb-left, distinct-snoc, below-snoc}
 use Rattle.lists.specs.Lists.{memb, Distinct, Below}
@@ -70,7 +70,7 @@ module _ {n : ℕ} where
     other-x v ne = ap (λ (i : ℕ). eqb i 0) (getD-set-other (s .marks) x v 1 0 ne)
 
     -- x is marked, then others, and then x is listed
-    grown-visit : {t : St} → Grown n (mark x s) t → Grown n s (finish x t)
+    grown-visit : {t : St} → Grown n (mark x s) t → Grown n s (enlist x t)
     grown-visit {t} g =
         let absent : memb x (g .tail) ≡ false = on (memb x (g .tail)) (λ e. clash (g .new x e .0) marked-x) (λ e. e) in
         record {

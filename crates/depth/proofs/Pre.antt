@@ -1,8 +1,8 @@
 -- Depth first in preorder, smallest neighbour first: it lists what is reached from the start, each once. Assumes nothing.
-use mathlib.Core.Path.{_≡_, sym, ap, _∙_, subst}
+use mathlib.Core.Path.{_≡_, refl, sym, ap, _∙_, subst}
 use mathlib.Core.Bool.{Bool, true, false, _||_}
 use mathlib.Core.List.{_∷_}
-use Prim.Native.Nat.{ℕ, zero, suc, _+_, _≤_, _<_}
+use Prim.Native.Nat.{ℕ, zero, suc, _+_, _-_, _≤_, _<_}
 use native.Mathlib.Nat.{lt-irrefl}
 use native.Mathlib.Omega.{arith}
 use lib.Dec.{eqb}
@@ -21,6 +21,25 @@ use Rattle.lists.specs.Lists.{memb, Distinct}
 use Rattle.walks.proofs.Walks.{reach-trans, reach-keeps}
 use Rattle.walks.specs.Walks.{Reach, here, step}
 use Rattle.depth.specs.Pre.{enter, climbs, walks, preorder, Full}
+
+-- one step of the k that are untried
+pub climbs-step : (E : ℕ → ℕ → Bool) (v : ℕ → St → St) (n x k : ℕ) (s : St) → 0 < k → k ≤ n → climbs E v x k (n - k) s ≡ climbs E v x (k - 1) (n - (k - 1)) (tried E v x (n - k) s)
+unfolding climbs
+climbs-step E v n x k s l b =
+    let e : k ≡ suc (k - 1) = omega arith in
+    let j : suc (n - k) ≡ n - (k - 1) = omega arith in
+    ap (λ (i : ℕ). climbs E v x i (n - k) s) e ∙ ap (λ (i : ℕ). climbs E v x (k - 1) i (tried E v x (n - k) s)) j
+
+pub climbs-end : (E : ℕ → ℕ → Bool) (v : ℕ → St → St) (x j : ℕ) (s : St) → climbs E v x 0 j s ≡ s
+unfolding climbs
+climbs-end E v x j s = refl
+
+pub walks-more : (E : ℕ → ℕ → Bool) (n f x : ℕ) (s : St) → 0 < f → walks E n f x s ≡ climbs E (walks E n (f - 1)) x n (n - n) (enter x s)
+unfolding walks
+walks-more E n f x s l =
+    let e : f ≡ suc (f - 1) = omega arith in
+    let z : 0 ≡ n - n = omega arith in
+    ap (λ (i : ℕ). walks E n i x s) e ∙ ap (λ (i : ℕ). climbs E (walks E n (f - 1)) x n i (enter x s)) z
 
 free-falls : (n : ℕ) (s t : St) → Grown n s t → free n (t .marks) ≤ free n (s .marks)
 unfolding free

@@ -1,4 +1,4 @@
--- What a depth first search does: it lists the numbers that it marks, each once. Assumes nothing.
+-- The order in which a search from ascending starts finishes the numbers; a search lists what it marks, each once. Assumes nothing.
 use mathlib.Core.Path.{_≡_}
 use mathlib.Core.Bool.{Bool, true, false, cond}
 use mathlib.Core.List.{List, [], _++_}
@@ -31,6 +31,7 @@ unfoldable pub sweep : (ℕ → ℕ → Bool) → ℕ → ℕ → ℕ → St →
 sweep E n zero x s = s
 sweep E n (suc m) x s = sweep E n m (suc x) (start E n n x s)
 
+-- before the search: no mark, nothing listed
 abbrev pub blank : St
 blank = record { marks = replicate 256 0; out = [] }
 
