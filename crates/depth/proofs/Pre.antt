@@ -17,7 +17,7 @@ use Rattle.graph.specs.Reach.{Edge}
 use Rattle.lists.proofs.Cases.{on, on-same, clash, or-right}
 use Rattle.lists.proofs.Count.{count-mono, count-le}
 use Rattle.lists.proofs.Memb.{memb-self}
-use Rattle.lists.specs.Lists.{memb, Distinct}
+use Rattle.lists.specs.Lists.{memb, Distinct, Below}
 use Rattle.walks.proofs.Walks.{reach-trans, reach-keeps}
 use Rattle.walks.specs.Walks.{Reach, here, step}
 use Rattle.depth.specs.Pre.{enter, climbs, walks, preorder, Full}
@@ -139,6 +139,10 @@ module _ (E : ℕ → ℕ → Bool) (n : ℕ) where
     pub preorder-once : Distinct (preorder E n x)
     unfolding preorder
     preorder-once = subst Distinct (sym (all .0 .grown .out)) (all .0 .grown .once)
+
+    pub preorder-below : Below n (preorder E n x)
+    unfolding preorder
+    preorder-below = subst (Below n) (sym (all .0 .grown .out)) (all .0 .grown .below)
 
     pub preorder-sound : (y : ℕ) → y < n → memb y (preorder E n x) ≡ true → Reach (Edge E n) x y
     unfolding preorder

@@ -114,6 +114,11 @@ pub extern "C" fn timed_get_bfs(t: &[u32], v: VertexIndex, out: &mut [u32]) -> R
 }
 
 #[no_mangle]
+pub extern "C" fn timed_get_dfs(t: &[u32], v: VertexIndex, out: &mut [u32]) -> Reply {
+    layout::reply_of(traversal::get_dfs(t, v, out))
+}
+
+#[no_mangle]
 pub extern "C" fn timed_random_walk(
     t: &[u32],
     start: VertexIndex,
