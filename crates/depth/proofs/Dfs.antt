@@ -1,13 +1,15 @@
 -- Depth first, largest neighbour first: a number is marked when it is visited, and listed when its steps are tried.
 -- Assumes nothing.
 use mathlib.Core.Path.{_≡_, refl, sym, ap}
-use mathlib.Core.Bool.{Bool, true, false, and-false}
+use mathlib.Core.Bool.{Bool, true, false, not, _&&_, and-false}
 use mathlib.Core.List.{List}
 use Prim.Native.Nat.{ℕ, suc, _-_, _<_}
 use native.Mathlib.Omega.{arith}
 use lib.Dec.{eqb}
 use lib.ListN.{length, getD, set}
 use lib.Seq.{getD-set-same, getD-set-other}
+use borrow.Author.Tests.{eqb-true}
+use Rattle.lists.proofs.Cases.{clash}
 use Rattle.lists.proofs.Count.{count-flip}
 use Rattle.depth.specs.Dfs.{St, unmarked, free, mark, enlist, tried, tries, visits}
 
@@ -20,7 +22,28 @@ free-mark n x m l b z =
     (ap (λ (i : ℕ). eqb i 0) z)
     (λ y ne. ap (λ (i : ℕ). eqb i 0) (sym (getD-set-other m x y 1 0 ne)))
 
+-- how the code's test goes
+refused : (b : Bool) → not b ≡ true → b ≡ false
+refused true e = clash e refl
+refused false e = refl
+
+granted : (b : Bool) → not b ≡ false → b ≡ true
+granted true e = refl
+granted false e = clash refl e
+
+pub due-free : (a : Bool) (m : ℕ) → not (a && eqb m 0) ≡ false → m ≡ 0
+due-free true m e = eqb-true m 0 (granted (eqb m 0) e)
+due-free false m e = clash refl e
+
 module _ (E : ℕ → ℕ → Bool) (v : ℕ → St → St) where
+  pub tried-refused : (x k : ℕ) (s : St) → not (E x k && unmarked (s .marks) k) ≡ true → tried E v x k s ≡ s
+  unfolding tried
+  tried-refused x k s e = rw (refused (E x k && unmarked (s .marks) k) e)
+
+  pub tried-due : (x k : ℕ) (s : St) → not (E x k && unmarked (s .marks) k) ≡ false → tried E v x k s ≡ v k s
+  unfolding tried
+  tried-due x k s e = rw (granted (E x k && unmarked (s .marks) k) e)
+
   pub tried-none : (x k : ℕ) (s : St) → E x k ≡ false → tried E v x k s ≡ s
   unfolding tried
   tried-none x k s e = rw e

@@ -60,10 +60,8 @@ fn try_step(
     ensures { λ r. ⌜ Went (λ f. tried (matrix (now (adj .entry))) (visits (matrix (now (adj .entry))) n f) x (k - 1)) n (now (marks .entry)) (now (out .entry)) t (now (marks .exit)) (now (out .exit)) r ⌝ }
 {
     let j = k - 1;
-    if adj[x * 256 + j] != 1 {
-        return t;
-    }
-    if marks[j] != 0 {
+    let due = (adj[x * 256 + j] == 1) & (marks[j] == 0);
+    if !due {
         return t;
     }
     visit(adj, n, j, marks, out, t, begun)
@@ -141,10 +139,8 @@ fn try_enter(
     ensures { λ r. ⌜ Went (λ f. tried (matrix (now (adj .entry))) (walks (matrix (now (adj .entry))) n f) x (n - k)) n (now (marks .entry)) (now (out .entry)) t (now (marks .exit)) (now (out .exit)) r ⌝ }
 {
     let j = n - k;
-    if adj[x * 256 + j] != 1 {
-        return t;
-    }
-    if marks[j] != 0 {
+    let due = (adj[x * 256 + j] == 1) & (marks[j] == 0);
+    if !due {
         return t;
     }
     enter(adj, n, j, marks, out, t)

@@ -87,7 +87,7 @@ module _ (E : ℕ → ℕ → Bool) (n : ℕ) where
       rw (e, add-one k) (run-more (n - suc k) k q l)
 
 module _ (E : ℕ → ℕ → Bool) (n s : ℕ) where
-  served-first : s < n → Served E n s 0 (s ∷ [])
+  pub served-first : s < n → Served E n s 0 (s ∷ [])
   served-first h = record {
     once = (refl, tt);
     below = (h, tt);
@@ -100,7 +100,7 @@ module _ (E : ℕ → ℕ → Bool) (n s : ℕ) where
       memb-snoc-none : (y : ℕ) → (y ≡ s → ⊥) → memb y (s ∷ []) ≡ false
       memb-snoc-none y ne = rw (ne-eqb y s ne)
 
-  served-more : (k : ℕ) (q : List ℕ) → k < length q → Served E n s k q → Served E n s (suc k) (spread E (getD q k 0) n 0 q)
+  pub served-more : (k : ℕ) (q : List ℕ) → k < length q → Served E n s k q → Served E n s (suc k) (spread E (getD q k 0) n 0 q)
   served-more k q l v =
       let x : ℕ = getD q k 0 in
       let q′ : List ℕ = spread E x n 0 q in
@@ -121,7 +121,7 @@ module _ (E : ℕ → ℕ → Bool) (n s : ℕ) where
             (λ ne. kept z (v .done i z (omega arith) hz (subst (λ (w : ℕ). E w z ≡ true) (place i (omega arith)) e)));
       }
 
-  run-end-zero : (i : ℕ) (w : List ℕ) → run E n zero i w ≡ w
+  pub run-end-zero : (i : ℕ) (w : List ℕ) → run E n zero i w ≡ w
   unfolding run
   run-end-zero i w = refl
 
@@ -142,7 +142,7 @@ module _ (E : ℕ → ℕ → Bool) (n s : ℕ) where
       subst (λ (w : List ℕ). Served E n s (length w) w) (sym (run-end E n (suc f) k q l))
       (subst (λ (i : ℕ). Served E n s i q) (le-antisymm (v .within) l) v))
 
-  bfs-served : s < n → Served E n s (length (bfs E n s)) (bfs E n s)
+  pub bfs-served : s < n → Served E n s (length (bfs E n s)) (bfs E n s)
   unfolding bfs
   bfs-served h = run-served n 0 (s ∷ []) (omega arith) (served-first h)
 

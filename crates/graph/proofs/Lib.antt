@@ -3,3 +3,4 @@ pub mod Held
 pub mod Outside
 pub mod Sifted
 pub mod Post
+pub mod Levels

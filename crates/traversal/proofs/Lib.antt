@@ -4,3 +4,4 @@ pub mod Searches
 pub mod Reaching
 pub mod Listing
 pub mod Walks
+pub mod Steps

@@ -29,7 +29,7 @@ module _ {ws : List ℕ} (f : Formed limit ws) (x : ℕ) (l : isLive (liveVertic
   small = f .shape .vertices-le
 
   -- the records that the search lists
-  pub records : Order → List ℕ
+  unfoldable pub records : Order → List ℕ
   records how = searchOf how (stepsBetween (read limit ws)) (vertexCount ws) (start .0)
 
   pub traversal-records : (how : Order) → traversal how (read limit ws) x ≡ map (numberOf (read limit ws)) (records how)

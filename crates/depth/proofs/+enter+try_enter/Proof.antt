@@ -1,12 +1,12 @@
 -- `depth::enter` and `depth::try_enter` meet their contracts. Assumes nothing.
-use Rattle.depth.proofs.Dfs.{tried-none, tried-marked, tried-new}
+use Rattle.depth.proofs.Dfs.{due-free, tried-refused, tried-due}
 use Rattle.depth.proofs.Went.{went-none, went-as, untried-less, fit-marked, fit-place, fit-enter, going-first, going-fit, going-falls, entering, entering-more, entering-end}
 use Rattle.depth.specs.Dfs.{free}
 use Rattle.depth.specs.Went.{Going}
 use Rattle.graph.specs.Reach.{matrix}
 use native.Mathlib.Omega.{arith}
-use borrow.Author.Tests.{eq-eqb, ne-eqb}
-use Prim.Native.Nat.{ℕ, _<_, _+_, _*_}
+use Prim.Native.Nat.{ℕ, _<_, _+_, _-_, _*_}
+use lib.ListN.{getD}
 use borrow.Fn.Kinds.{In}
 use borrow.Fn.PlainCycle.{Measures, is, falls, and}
 use Rattle.depth.proofs.enter.Reads as enter
@@ -146,54 +146,44 @@ try-enter-sub-j :
     (t : ℕ) → try-enter-lts.Need-sub-j (enter-below t, enter.Post) (try-enter-at t) try-enter.Post
 try-enter-sub-j t c = omega arith
 
-try-enter-mul-if1 :
+try-enter-mul-due :
     (t : ℕ) →
-    try-enter-lts.Need-mul-if1 (enter-below t, enter.Post) (try-enter-at t) try-enter.Post
-try-enter-mul-if1 t c = omega arith
+    try-enter-lts.Need-mul-due (enter-below t, enter.Post) (try-enter-at t) try-enter.Post
+try-enter-mul-due t c = omega arith
 
-try-enter-add-if1 :
+try-enter-add-due :
     (t : ℕ) →
-    try-enter-lts.Need-add-if1 (enter-below t, enter.Post) (try-enter-at t) try-enter.Post
-try-enter-add-if1 t c = omega arith
+    try-enter-lts.Need-add-due (enter-below t, enter.Post) (try-enter-at t) try-enter.Post
+try-enter-add-due t c = omega arith
 
-try-enter-element-copy-out-if1 : (t : ℕ) → try-enter-lts.Need-element-copy-out-if1 (
+try-enter-element-copy-out-due : (t : ℕ) → try-enter-lts.Need-element-copy-out-due (
   enter-below t,
   enter.Post,
 ) (try-enter-at t) try-enter.Post
-try-enter-element-copy-out-if1 t c = omega arith
+try-enter-element-copy-out-due t c = omega arith
+
+try-enter-element-copy-out-due-2 : (t : ℕ) → try-enter-lts.Need-element-copy-out-due-2 (
+  enter-below t,
+  enter.Post,
+) (try-enter-at t) try-enter.Post
+try-enter-element-copy-out-due-2 t c = omega arith
 
 try-enter-returns :
     (t : ℕ) →
     try-enter-lts.Need-returns (enter-below t, enter.Post) (try-enter-at t) try-enter.Post
-try-enter-returns t c =
-    let s = c .before .before in
-    went-none (s .pre .1 .3) (λ f. tried-none _ _ _ _ _ (ne-eqb _ 1 (c .if1 .taken)))
-
-try-enter-element-copy-out-if2 : (t : ℕ) → try-enter-lts.Need-element-copy-out-if2 (
-  enter-below t,
-  enter.Post,
-) (try-enter-at t) try-enter.Post
-try-enter-element-copy-out-if2 t c = omega arith
-
-try-enter-returns-2 :
-    (t : ℕ) →
-    try-enter-lts.Need-returns-2 (enter-below t, enter.Post) (try-enter-at t) try-enter.Post
-try-enter-returns-2 t c =
-    let s = c .before .before .before .before in
-    went-none (s .pre .1 .3) (λ f. tried-marked _ _ _ _ _ (ne-eqb _ 0 (c .if2 .taken)))
+try-enter-returns t c = went-none (c .before .before .before .pre .1 .3) (λ f. tried-refused _ _ _ _ _ (c .if1 .taken))
 
 try-enter-enter-requires :
     (t : ℕ) →
     try-enter-lts.Need-enter-requires (enter-below t, enter.Post) (try-enter-at t) try-enter.Post
 try-enter-enter-requires t c κs =
-    let s = c .before .before .before .before .before .before in
-    (omega (arith, s .pre .0, s .pre .1 .1), (omega (arith, s .pre .1 .1, s .pre .1 .2), c .before .before .if2 .left, s .pre .1 .3))
+    let s = c .before .before .before .before .before in
+    (omega (arith, s .pre .0, s .pre .1 .1), (omega (arith, s .pre .1 .1, s .pre .1 .2), due-free (matrix (s .args .adj .now) (s .args .x) (s .args .n - s .args .k)) (getD (s .args .marks .now) (s .args .n - s .args .k) 0) (c .before .before .if1 .left), s .pre .1 .3))
 
-try-enter-returns-3 :
+try-enter-returns-2 :
     (t : ℕ) →
-    try-enter-lts.Need-returns-3 (enter-below t, enter.Post) (try-enter-at t) try-enter.Post
-try-enter-returns-3 t c =
-    went-as (c .enter .ensures) (λ f. tried-new _ _ _ _ _ (eq-eqb _ 1 (c .before .before .before .before .before .if1 .left)) (eq-eqb _ 0 (c .before .before .before .if2 .left)))
+    try-enter-lts.Need-returns-2 (enter-below t, enter.Post) (try-enter-at t) try-enter.Post
+try-enter-returns-2 t c = went-as (c .enter .ensures) (λ f. tried-due _ _ _ _ _ (c .before .before .before .if1 .left))
 
 pub +enter+try-enter-spec : {M : Type 1} → statement M
 +enter+try-enter-spec = close μ-enter μ-try-enter (λ t. enter-lts.spec (
@@ -222,11 +212,10 @@ pub +enter+try-enter-spec : {M : Type 1} → statement M
     (try-enter-at t)
     try-enter.Post
     (try-enter-sub-j t)
-    (try-enter-mul-if1 t)
-    (try-enter-add-if1 t)
-    (try-enter-element-copy-out-if1 t)
+    (try-enter-mul-due t)
+    (try-enter-add-due t)
+    (try-enter-element-copy-out-due t)
+    (try-enter-element-copy-out-due-2 t)
     (try-enter-returns t)
-    (try-enter-element-copy-out-if2 t)
-    (try-enter-returns-2 t)
     (try-enter-enter-requires t)
-    (try-enter-returns-3 t)
+    (try-enter-returns-2 t)

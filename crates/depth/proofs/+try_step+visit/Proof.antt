@@ -1,12 +1,12 @@
 -- `depth::visit` and `depth::try_step` meet their contracts. Assumes nothing.
-use Rattle.depth.proofs.Dfs.{tried-none, tried-marked, tried-new}
+use Rattle.depth.proofs.Dfs.{due-free, tried-refused, tried-due}
 use Rattle.depth.proofs.Went.{went-none, went-as, untried-less, fit-marked, fit-mark, going-first, going-fit, going-small, going-falls, visiting, visiting-more, visiting-room, visiting-end}
 use Rattle.depth.specs.Dfs.{free}
 use Rattle.depth.specs.Went.{Going}
 use Rattle.graph.specs.Reach.{matrix}
 use native.Mathlib.Omega.{arith}
-use borrow.Author.Tests.{eq-eqb, ne-eqb}
-use Prim.Native.Nat.{ℕ, _<_, _+_, _*_}
+use Prim.Native.Nat.{ℕ, _<_, _+_, _-_, _*_}
+use lib.ListN.{getD}
 use borrow.Fn.Kinds.{In}
 use borrow.Fn.PlainCycle.{Measures, is, falls, and}
 use Rattle.depth.proofs.try_step.Reads as try-step
@@ -42,51 +42,41 @@ try-step-sub-j :
     (t : ℕ) → try-step-lts.Need-sub-j (visit-below t, visit.Post) (try-step-at t) try-step.Post
 try-step-sub-j t c = omega arith
 
-try-step-mul-if1 :
-    (t : ℕ) → try-step-lts.Need-mul-if1 (visit-below t, visit.Post) (try-step-at t) try-step.Post
-try-step-mul-if1 t c = omega arith
+try-step-mul-due :
+    (t : ℕ) → try-step-lts.Need-mul-due (visit-below t, visit.Post) (try-step-at t) try-step.Post
+try-step-mul-due t c = omega arith
 
-try-step-add-if1 :
-    (t : ℕ) → try-step-lts.Need-add-if1 (visit-below t, visit.Post) (try-step-at t) try-step.Post
-try-step-add-if1 t c = omega arith
+try-step-add-due :
+    (t : ℕ) → try-step-lts.Need-add-due (visit-below t, visit.Post) (try-step-at t) try-step.Post
+try-step-add-due t c = omega arith
 
-try-step-element-copy-out-if1 : (t : ℕ) → try-step-lts.Need-element-copy-out-if1 (
+try-step-element-copy-out-due : (t : ℕ) → try-step-lts.Need-element-copy-out-due (
   visit-below t,
   visit.Post,
 ) (try-step-at t) try-step.Post
-try-step-element-copy-out-if1 t c = omega arith
+try-step-element-copy-out-due t c = omega arith
+
+try-step-element-copy-out-due-2 : (t : ℕ) → try-step-lts.Need-element-copy-out-due-2 (
+  visit-below t,
+  visit.Post,
+) (try-step-at t) try-step.Post
+try-step-element-copy-out-due-2 t c = omega arith
 
 try-step-returns :
     (t : ℕ) → try-step-lts.Need-returns (visit-below t, visit.Post) (try-step-at t) try-step.Post
-try-step-returns t c =
-    let s = c .before .before in
-    went-none (s .pre .1 .3) (λ f. tried-none _ _ _ _ _ (ne-eqb _ 1 (c .if1 .taken)))
-
-try-step-element-copy-out-if2 : (t : ℕ) → try-step-lts.Need-element-copy-out-if2 (
-  visit-below t,
-  visit.Post,
-) (try-step-at t) try-step.Post
-try-step-element-copy-out-if2 t c = omega arith
-
-try-step-returns-2 :
-    (t : ℕ) →
-    try-step-lts.Need-returns-2 (visit-below t, visit.Post) (try-step-at t) try-step.Post
-try-step-returns-2 t c =
-    let s = c .before .before .before .before in
-    went-none (s .pre .1 .3) (λ f. tried-marked _ _ _ _ _ (ne-eqb _ 0 (c .if2 .taken)))
+try-step-returns t c = went-none (c .before .before .before .pre .1 .3) (λ f. tried-refused _ _ _ _ _ (c .if1 .taken))
 
 try-step-visit-requires :
     (t : ℕ) →
     try-step-lts.Need-visit-requires (visit-below t, visit.Post) (try-step-at t) try-step.Post
 try-step-visit-requires t c κs =
-    let s = c .before .before .before .before .before .before in
-    (omega (arith, s .pre .0, s .pre .1 .1), (omega (arith, s .pre .1 .1, s .pre .1 .2), c .before .before .if2 .left, s .pre .1 .3))
+    let s = c .before .before .before .before .before in
+    (omega (arith, s .pre .0, s .pre .1 .1), (omega (arith, s .pre .1 .1, s .pre .1 .2), due-free (matrix (s .args .adj .now) (s .args .x) (s .args .k - 1)) (getD (s .args .marks .now) (s .args .k - 1) 0) (c .before .before .if1 .left), s .pre .1 .3))
 
-try-step-returns-3 :
+try-step-returns-2 :
     (t : ℕ) →
-    try-step-lts.Need-returns-3 (visit-below t, visit.Post) (try-step-at t) try-step.Post
-try-step-returns-3 t c =
-    went-as (c .visit .ensures) (λ f. tried-new _ _ _ _ _ (eq-eqb _ 1 (c .before .before .before .before .before .if1 .left)) (eq-eqb _ 0 (c .before .before .before .if2 .left)))
+    try-step-lts.Need-returns-2 (visit-below t, visit.Post) (try-step-at t) try-step.Post
+try-step-returns-2 t c = went-as (c .visit .ensures) (λ f. tried-due _ _ _ _ _ (c .before .before .before .if1 .left))
 
 abbrev visit-Inv-loop : visit-lts.InvT-loop
 visit-Inv-loop adj n x marks₀ out₀ t begun end₀ k₀ marks out end k = Going (visiting (matrix adj) n x) n marks₀ out₀ t marks out end k
@@ -234,14 +224,13 @@ pub +try-step+visit-spec : {M : Type 1} → statement M
     (try-step-at t)
     try-step.Post
     (try-step-sub-j t)
-    (try-step-mul-if1 t)
-    (try-step-add-if1 t)
-    (try-step-element-copy-out-if1 t)
+    (try-step-mul-due t)
+    (try-step-add-due t)
+    (try-step-element-copy-out-due t)
+    (try-step-element-copy-out-due-2 t)
     (try-step-returns t)
-    (try-step-element-copy-out-if2 t)
-    (try-step-returns-2 t)
     (try-step-visit-requires t)
-    (try-step-returns-3 t))
+    (try-step-returns-2 t))
     λ t. visit-lts.spec
     (try-step-below t, try-step.Post, untried-reads.Asked, untried-reads.Learnt)
     (visit-at t)
