@@ -1,6 +1,8 @@
 // Depth first over a matrix of marks: the order in which numbers are finished, and the preorder from a start.
 ghost use mathlib.Core.Path.{_≡_};
+ghost use mathlib.Core.Bool.{not, _&&_};
 ghost use Prim.Native.Nat.{_+_, _-_, _<_, _≤_};
+ghost use lib.Dec.{eqb};
 ghost use lib.ListN.{length, getD, take};
 ghost use Rattle.graph.specs.Reach.{matrix};
 ghost use Rattle.depth.specs.Dfs.{visits, tried};
@@ -8,6 +10,13 @@ ghost use Rattle.depth.specs.Finish.{start};
 ghost use Rattle.depth.specs.Pre.{walks, preorder};
 ghost use Rattle.depth.specs.Went.{Untried, Fit, Went};
 ghost use Rattle.depth.specs.Swept.{Finishes};
+
+// A step is not to be taken: there is none, or its end is marked. One sum, so that there is one branch.
+fn hindered(entry: u8, mark: u8) -> bool
+    ensures { λ r. ⌜ r ≡ not (eqb entry 1 && eqb mark 0) ⌝ }
+{
+    0 < (entry != 1) as usize + mark as usize
+}
 
 // How many neighbours are left to try after one of k: none, where every number is marked.
 fn untried(n: usize, k: usize, marked: usize) -> usize
@@ -60,8 +69,7 @@ fn try_step(
     ensures { λ r. ⌜ Went (λ f. tried (matrix (now (adj .entry))) (visits (matrix (now (adj .entry))) n f) x (k - 1)) n (now (marks .entry)) (now (out .entry)) t (now (marks .exit)) (now (out .exit)) r ⌝ }
 {
     let j = k - 1;
-    let due = (adj[x * 256 + j] == 1) & (marks[j] == 0);
-    if !due {
+    if hindered(adj[x * 256 + j], marks[j]) {
         return t;
     }
     visit(adj, n, j, marks, out, t, begun)
@@ -139,8 +147,7 @@ fn try_enter(
     ensures { λ r. ⌜ Went (λ f. tried (matrix (now (adj .entry))) (walks (matrix (now (adj .entry))) n f) x (n - k)) n (now (marks .entry)) (now (out .entry)) t (now (marks .exit)) (now (out .exit)) r ⌝ }
 {
     let j = n - k;
-    let due = (adj[x * 256 + j] == 1) & (marks[j] == 0);
-    if !due {
+    if hindered(adj[x * 256 + j], marks[j]) {
         return t;
     }
     enter(adj, n, j, marks, out, t)

@@ -5,3 +5,4 @@ pub mod Reaching
 pub mod Listing
 pub mod Walks
 pub mod Steps
+pub mod Sheet

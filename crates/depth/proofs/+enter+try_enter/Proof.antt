@@ -4,6 +4,7 @@ use Rattle.depth.proofs.Went.{went-none, went-as, untried-less, fit-mar
 use Rattle.depth.specs.Dfs.{free}
 use Rattle.depth.specs.Went.{Going}
 use Rattle.graph.specs.Reach.{matrix}
+use mathlib.Core.Path.{sym, _∙_}
 use native.Mathlib.Omega.{arith}
 use Prim.Native.Nat.{ℕ, _<_, _+_, _-_, _*_}
 use lib.ListN.{getD}
@@ -15,6 +16,7 @@ use Rattle.depth.proofs.+enter+try_enter.Lts-enter as enter-lts
 use Rattle.depth.proofs.try_enter.Reads as try-enter
 use Rattle.depth.proofs.try_enter.Kinds as try-enter-kinds
 use Rattle.depth.proofs.+enter+try_enter.Lts-try_enter as try-enter-lts
+use Rattle.depth.proofs.hindered.Reads as hindered-reads
 use Rattle.depth.proofs.untried.Reads as untried-reads
 use Rattle.depth.proofs.+enter+try_enter.{statement}
 use Rattle.depth.proofs.+enter+try_enter.Tie.{close}
@@ -142,48 +144,80 @@ enter-returns t c =
     let s = c .before .before in
     entering-end _ (s .pre .1 .2) (s .pre .1 .0) (s .pre .1 .1) (c .before .loop .inv) (c .loop-test .left)
 
-try-enter-sub-j :
-    (t : ℕ) → try-enter-lts.Need-sub-j (enter-below t, enter.Post) (try-enter-at t) try-enter.Post
+try-enter-sub-j : (t : ℕ) → try-enter-lts.Need-sub-j (
+  hindered-reads.Asked,
+  hindered-reads.Learnt,
+  enter-below t,
+  enter.Post,
+) (try-enter-at t) try-enter.Post
 try-enter-sub-j t c = omega arith
 
-try-enter-mul-due :
-    (t : ℕ) →
-    try-enter-lts.Need-mul-due (enter-below t, enter.Post) (try-enter-at t) try-enter.Post
-try-enter-mul-due t c = omega arith
-
-try-enter-add-due :
-    (t : ℕ) →
-    try-enter-lts.Need-add-due (enter-below t, enter.Post) (try-enter-at t) try-enter.Post
-try-enter-add-due t c = omega arith
-
-try-enter-element-copy-out-due : (t : ℕ) → try-enter-lts.Need-element-copy-out-due (
+try-enter-mul-hindered : (t : ℕ) → try-enter-lts.Need-mul-hindered (
+  hindered-reads.Asked,
+  hindered-reads.Learnt,
   enter-below t,
   enter.Post,
 ) (try-enter-at t) try-enter.Post
-try-enter-element-copy-out-due t c = omega arith
+try-enter-mul-hindered t c = omega arith
 
-try-enter-element-copy-out-due-2 : (t : ℕ) → try-enter-lts.Need-element-copy-out-due-2 (
+try-enter-add-hindered : (t : ℕ) → try-enter-lts.Need-add-hindered (
+  hindered-reads.Asked,
+  hindered-reads.Learnt,
   enter-below t,
   enter.Post,
 ) (try-enter-at t) try-enter.Post
-try-enter-element-copy-out-due-2 t c = omega arith
+try-enter-add-hindered t c = omega arith
 
-try-enter-returns :
-    (t : ℕ) →
-    try-enter-lts.Need-returns (enter-below t, enter.Post) (try-enter-at t) try-enter.Post
-try-enter-returns t c = went-none (c .before .before .before .pre .1 .3) (λ f. tried-refused _ _ _ _ _ (c .if1 .taken))
+try-enter-element-copy-out-hindered : (t : ℕ) → try-enter-lts.Need-element-copy-out-hindered (
+  hindered-reads.Asked,
+  hindered-reads.Learnt,
+  enter-below t,
+  enter.Post,
+) (try-enter-at t) try-enter.Post
+try-enter-element-copy-out-hindered t c = omega arith
 
-try-enter-enter-requires :
-    (t : ℕ) →
-    try-enter-lts.Need-enter-requires (enter-below t, enter.Post) (try-enter-at t) try-enter.Post
+try-enter-element-copy-out-hindered-2 : (t : ℕ) → try-enter-lts.Need-element-copy-out-hindered-2 (
+  hindered-reads.Asked,
+  hindered-reads.Learnt,
+  enter-below t,
+  enter.Post,
+) (try-enter-at t) try-enter.Post
+try-enter-element-copy-out-hindered-2 t c = omega arith
+
+try-enter-hindered-requires : (t : ℕ) → try-enter-lts.Need-hindered-requires (
+  hindered-reads.Asked,
+  hindered-reads.Learnt,
+  enter-below t,
+  enter.Post,
+) (try-enter-at t) try-enter.Post
+try-enter-hindered-requires t c κs = tt
+
+try-enter-returns : (t : ℕ) → try-enter-lts.Need-returns (
+  hindered-reads.Asked,
+  hindered-reads.Learnt,
+  enter-below t,
+  enter.Post,
+) (try-enter-at t) try-enter.Post
+try-enter-returns t c = went-none (c .before .before .before .before .pre .1 .3) (λ f. tried-refused _ _ _ _ _ (sym (c .before .hindered .ensures) ∙ c .if1 .taken))
+
+try-enter-enter-requires : (t : ℕ) → try-enter-lts.Need-enter-requires (
+  hindered-reads.Asked,
+  hindered-reads.Learnt,
+  enter-below t,
+  enter.Post,
+) (try-enter-at t) try-enter.Post
 try-enter-enter-requires t c κs =
-    let s = c .before .before .before .before .before in
-    (omega (arith, s .pre .0, s .pre .1 .1), (omega (arith, s .pre .1 .1, s .pre .1 .2), due-free (matrix (s .args .adj .now) (s .args .x) (s .args .n - s .args .k)) (getD (s .args .marks .now) (s .args .n - s .args .k) 0) (c .before .before .if1 .left), s .pre .1 .3))
+    let s = c .before .before .before .before .before .before in
+    let free′ = due-free (matrix (s .args .adj .now) (s .args .x) (s .args .n - s .args .k)) (getD (s .args .marks .now) (s .args .n - s .args .k) 0) (sym (c .before .before .before .hindered .ensures) ∙ c .before .before .if1 .left) in
+    (omega (arith, s .pre .0, s .pre .1 .1), (omega (arith, s .pre .1 .1, s .pre .1 .2), free′, s .pre .1 .3))
 
-try-enter-returns-2 :
-    (t : ℕ) →
-    try-enter-lts.Need-returns-2 (enter-below t, enter.Post) (try-enter-at t) try-enter.Post
-try-enter-returns-2 t c = went-as (c .enter .ensures) (λ f. tried-due _ _ _ _ _ (c .before .before .before .if1 .left))
+try-enter-returns-2 : (t : ℕ) → try-enter-lts.Need-returns-2 (
+  hindered-reads.Asked,
+  hindered-reads.Learnt,
+  enter-below t,
+  enter.Post,
+) (try-enter-at t) try-enter.Post
+try-enter-returns-2 t c = went-as (c .enter .ensures) (λ f. tried-due _ _ _ _ _ (sym (c .before .before .before .before .hindered .ensures) ∙ c .before .before .before .if1 .left))
 
 pub +enter+try-enter-spec : {M : Type 1} → statement M
 +enter+try-enter-spec = close μ-enter μ-try-enter (λ t. enter-lts.spec (
@@ -208,14 +242,15 @@ pub +enter+try-enter-spec : {M : Type 1} → statement M
     (enter-loop-again t)
     (enter-returns t))
     λ t. try-enter-lts.spec
-    (enter-below t, enter.Post)
+    (hindered-reads.Asked, hindered-reads.Learnt, enter-below t, enter.Post)
     (try-enter-at t)
     try-enter.Post
     (try-enter-sub-j t)
-    (try-enter-mul-due t)
-    (try-enter-add-due t)
-    (try-enter-element-copy-out-due t)
-    (try-enter-element-copy-out-due-2 t)
+    (try-enter-mul-hindered t)
+    (try-enter-add-hindered t)
+    (try-enter-element-copy-out-hindered t)
+    (try-enter-element-copy-out-hindered-2 t)
+    (try-enter-hindered-requires t)
     (try-enter-returns t)
     (try-enter-enter-requires t)
     (try-enter-returns-2 t)

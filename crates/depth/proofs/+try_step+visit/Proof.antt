@@ -4,6 +4,7 @@ use Rattle.depth.proofs.Went.{went-none, went-as, untried-less, fit-mar
 use Rattle.depth.specs.Dfs.{free}
 use Rattle.depth.specs.Went.{Going}
 use Rattle.graph.specs.Reach.{matrix}
+use mathlib.Core.Path.{sym, _∙_}
 use native.Mathlib.Omega.{arith}
 use Prim.Native.Nat.{ℕ, _<_, _+_, _-_, _*_}
 use lib.ListN.{getD}
@@ -15,6 +16,7 @@ use Rattle.depth.proofs.+try_step+visit.Lts-try_step as try-step-lts
 use Rattle.depth.proofs.visit.Reads as visit
 use Rattle.depth.proofs.visit.Kinds as visit-kinds
 use Rattle.depth.proofs.+try_step+visit.Lts-visit as visit-lts
+use Rattle.depth.proofs.hindered.Reads as hindered-reads
 use Rattle.depth.proofs.untried.Reads as untried-reads
 use Rattle.depth.proofs.+try_step+visit.{statement}
 use Rattle.depth.proofs.+try_step+visit.Tie.{close}
@@ -38,45 +40,80 @@ visit-at t = and 3 visit-kinds.ps (is 3 visit-kinds.ps μ-visit t) visit.Pre
 abbrev visit-below : ℕ → In 3 visit-kinds.ps
 visit-below t = and 3 visit-kinds.ps (falls 3 visit-kinds.ps _<_ μ-visit t) visit.Pre
 
-try-step-sub-j :
-    (t : ℕ) → try-step-lts.Need-sub-j (visit-below t, visit.Post) (try-step-at t) try-step.Post
+try-step-sub-j : (t : ℕ) → try-step-lts.Need-sub-j (
+  hindered-reads.Asked,
+  hindered-reads.Learnt,
+  visit-below t,
+  visit.Post,
+) (try-step-at t) try-step.Post
 try-step-sub-j t c = omega arith
 
-try-step-mul-due :
-    (t : ℕ) → try-step-lts.Need-mul-due (visit-below t, visit.Post) (try-step-at t) try-step.Post
-try-step-mul-due t c = omega arith
-
-try-step-add-due :
-    (t : ℕ) → try-step-lts.Need-add-due (visit-below t, visit.Post) (try-step-at t) try-step.Post
-try-step-add-due t c = omega arith
-
-try-step-element-copy-out-due : (t : ℕ) → try-step-lts.Need-element-copy-out-due (
+try-step-mul-hindered : (t : ℕ) → try-step-lts.Need-mul-hindered (
+  hindered-reads.Asked,
+  hindered-reads.Learnt,
   visit-below t,
   visit.Post,
 ) (try-step-at t) try-step.Post
-try-step-element-copy-out-due t c = omega arith
+try-step-mul-hindered t c = omega arith
 
-try-step-element-copy-out-due-2 : (t : ℕ) → try-step-lts.Need-element-copy-out-due-2 (
+try-step-add-hindered : (t : ℕ) → try-step-lts.Need-add-hindered (
+  hindered-reads.Asked,
+  hindered-reads.Learnt,
   visit-below t,
   visit.Post,
 ) (try-step-at t) try-step.Post
-try-step-element-copy-out-due-2 t c = omega arith
+try-step-add-hindered t c = omega arith
 
-try-step-returns :
-    (t : ℕ) → try-step-lts.Need-returns (visit-below t, visit.Post) (try-step-at t) try-step.Post
-try-step-returns t c = went-none (c .before .before .before .pre .1 .3) (λ f. tried-refused _ _ _ _ _ (c .if1 .taken))
+try-step-element-copy-out-hindered : (t : ℕ) → try-step-lts.Need-element-copy-out-hindered (
+  hindered-reads.Asked,
+  hindered-reads.Learnt,
+  visit-below t,
+  visit.Post,
+) (try-step-at t) try-step.Post
+try-step-element-copy-out-hindered t c = omega arith
 
-try-step-visit-requires :
-    (t : ℕ) →
-    try-step-lts.Need-visit-requires (visit-below t, visit.Post) (try-step-at t) try-step.Post
+try-step-element-copy-out-hindered-2 : (t : ℕ) → try-step-lts.Need-element-copy-out-hindered-2 (
+  hindered-reads.Asked,
+  hindered-reads.Learnt,
+  visit-below t,
+  visit.Post,
+) (try-step-at t) try-step.Post
+try-step-element-copy-out-hindered-2 t c = omega arith
+
+try-step-hindered-requires : (t : ℕ) → try-step-lts.Need-hindered-requires (
+  hindered-reads.Asked,
+  hindered-reads.Learnt,
+  visit-below t,
+  visit.Post,
+) (try-step-at t) try-step.Post
+try-step-hindered-requires t c κs = tt
+
+try-step-returns : (t : ℕ) → try-step-lts.Need-returns (
+  hindered-reads.Asked,
+  hindered-reads.Learnt,
+  visit-below t,
+  visit.Post,
+) (try-step-at t) try-step.Post
+try-step-returns t c = went-none (c .before .before .before .before .pre .1 .3) (λ f. tried-refused _ _ _ _ _ (sym (c .before .hindered .ensures) ∙ c .if1 .taken))
+
+try-step-visit-requires : (t : ℕ) → try-step-lts.Need-visit-requires (
+  hindered-reads.Asked,
+  hindered-reads.Learnt,
+  visit-below t,
+  visit.Post,
+) (try-step-at t) try-step.Post
 try-step-visit-requires t c κs =
-    let s = c .before .before .before .before .before in
-    (omega (arith, s .pre .0, s .pre .1 .1), (omega (arith, s .pre .1 .1, s .pre .1 .2), due-free (matrix (s .args .adj .now) (s .args .x) (s .args .k - 1)) (getD (s .args .marks .now) (s .args .k - 1) 0) (c .before .before .if1 .left), s .pre .1 .3))
+    let s = c .before .before .before .before .before .before in
+    let free′ = due-free (matrix (s .args .adj .now) (s .args .x) (s .args .k - 1)) (getD (s .args .marks .now) (s .args .k - 1) 0) (sym (c .before .before .before .hindered .ensures) ∙ c .before .before .if1 .left) in
+    (omega (arith, s .pre .0, s .pre .1 .1), (omega (arith, s .pre .1 .1, s .pre .1 .2), free′, s .pre .1 .3))
 
-try-step-returns-2 :
-    (t : ℕ) →
-    try-step-lts.Need-returns-2 (visit-below t, visit.Post) (try-step-at t) try-step.Post
-try-step-returns-2 t c = went-as (c .visit .ensures) (λ f. tried-due _ _ _ _ _ (c .before .before .before .if1 .left))
+try-step-returns-2 : (t : ℕ) → try-step-lts.Need-returns-2 (
+  hindered-reads.Asked,
+  hindered-reads.Learnt,
+  visit-below t,
+  visit.Post,
+) (try-step-at t) try-step.Post
+try-step-returns-2 t c = went-as (c .visit .ensures) (λ f. tried-due _ _ _ _ _ (sym (c .before .before .before .before .hindered .ensures) ∙ c .before .before .before .if1 .left))
 
 abbrev visit-Inv-loop : visit-lts.InvT-loop
 visit-Inv-loop adj n x marks₀ out₀ t begun end₀ k₀ marks out end k = Going (visiting (matrix adj) n x) n marks₀ out₀ t marks out end k
@@ -218,16 +255,19 @@ visit-returns t c =
 
 pub +try-step+visit-spec : {M : Type 1} → statement M
 +try-step+visit-spec = close μ-try-step μ-visit (λ t. try-step-lts.spec (
+  hindered-reads.Asked,
+  hindered-reads.Learnt,
   visit-below t,
   visit.Post,
 )
     (try-step-at t)
     try-step.Post
     (try-step-sub-j t)
-    (try-step-mul-due t)
-    (try-step-add-due t)
-    (try-step-element-copy-out-due t)
-    (try-step-element-copy-out-due-2 t)
+    (try-step-mul-hindered t)
+    (try-step-add-hindered t)
+    (try-step-element-copy-out-hindered t)
+    (try-step-element-copy-out-hindered-2 t)
+    (try-step-hindered-requires t)
     (try-step-returns t)
     (try-step-visit-requires t)
     (try-step-returns-2 t))
