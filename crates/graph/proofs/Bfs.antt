@@ -1,5 +1,4 @@
--- Breadth first from a start, smallest neighbour first: a queue, in which a number stands once.
--- Assumes nothing.
+-- Breadth first lists exactly what is reached from its start, each once. Assumes nothing.
 use mathlib.Core.Path.{_≡_, refl, sym, ap, _∙_, subst}
 use mathlib.Core.Bool.{Bool, true, false, not, and-false}
 use mathlib.Core.Logic.{⊎-elim}
@@ -18,7 +17,16 @@ use Rattle.lists.proofs.Memb.{memb-self, memb-left, memb-getD, memb-at, memb-sn
 use Rattle.lists.specs.Lists.{memb, Distinct, Below}
 use Rattle.walks.proofs.Walks.{reach-keeps}
 use Rattle.walks.specs.Walks.{Reach, here, step}
-use Rattle.graph.specs.Bfs.{push, spread, run, bfs, Served}
+use Rattle.graph.specs.Bfs.{push, spread, run, bfs}
+
+-- what the queue keeps while it is served from place k on: numbers below n, none twice, each reached from s, and of those before k every step leads into it
+pub record Served (E : ℕ → ℕ → Bool) (n s k : ℕ) (q : List ℕ) : Type 0 where
+  pub once : Distinct q
+  pub below : Below n q
+  pub within : k ≤ length q
+  pub start : memb s q ≡ true
+  pub sound : (y : ℕ) → memb y q ≡ true → Reach (Edge E n) s y
+  pub done : (i z : ℕ) → i < k → z < n → E (getD q i 0) z ≡ true → memb z q ≡ true
 
 module _ (E : ℕ → ℕ → Bool) where
   pub push-new : (x : ℕ) (q : List ℕ) (j : ℕ) → E x j ≡ true → memb j q ≡ false → push E x q j ≡ q ++ (j ∷ [])

@@ -1,5 +1,4 @@
--- What the code's arrays hold while the queue is served: marks m, one for each number, and the queue itself in the first t places of o.
--- Assumes nothing.
+-- What the code's arrays hold while the queue is served: marks m, one for each number, and the queue itself in the first t places of o. Assumes nothing.
 use mathlib.Core.Path.{_≡_, refl, sym, ap, _∙_, subst}
 use mathlib.Core.Bool.{Bool, true, false, cond}
 use mathlib.Core.List.{List, [], _∷_, _++_}

@@ -18,9 +18,9 @@ use Rattle.lists.proofs.Memb.{memb-getD, memb-at, below-memb}
 use Rattle.walks.specs.Walks.{Reach, here, step}
 use Rattle.graph.specs.Reach.{Edge}
 use Rattle.graph.specs.Walk.{Walk, start, onward}
-use Rattle.graph.specs.Bfs.{spread, run, bfs, Served}
+use Rattle.graph.specs.Bfs.{spread, run, bfs}
 use Rattle.graph.specs.Held.{outside}
-use Rattle.graph.proofs.Bfs.{run-more, run-end, run-end-zero, served-first, served-more, bfs-once, bfs-below, bfs-complete}
+use Rattle.graph.proofs.Bfs.{Served, run-more, run-end, run-end-zero, served-first, served-more, bfs-once, bfs-below, bfs-complete}
 use Rattle.graph.proofs.Outside.{chosen-below, chosen-memb, distinct-before, spread-outside}
 
 -- while the queue is served from place k on: it begins with s; each other number is stepped to from a served place; and where a served

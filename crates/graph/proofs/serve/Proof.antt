@@ -1,5 +1,4 @@
--- `graph::serve` meets its contract. The invariant: to serve what is left of the queue gives the whole listing.
--- Assumes nothing.
+-- `graph::serve` meets its contract. The invariant: to serve what is left of the queue gives the whole listing. Assumes nothing.
 use Rattle.graph.proofs.Bfs.{run-step, run-end, spread-longer}
 use Rattle.graph.proofs.Held.{held-as, held-first, held-at, held-short, queued-as}
 use Rattle.graph.specs.Bfs.{spread, run, bfs}
