@@ -1,5 +1,4 @@
--- Depth first, largest neighbour first: a number is marked when it is visited, and listed when its steps are tried.
--- Assumes nothing.
+-- Laws of a visit and of the steps that it tries, one at a time. Assumes nothing.
 use mathlib.Core.Path.{_≡_, refl, sym, ap, _∙_}
 use mathlib.Core.Bool.{Bool, true, false, not, _&&_, and-false}
 use mathlib.Core.List.{List}

@@ -10,9 +10,9 @@ use lib.ListN.{length, getD, replicate, length-set, length-replicate, getD-repli
 use lib.Seq.{getD-set-same, getD-set-other, append-snoc}
 use borrow.Author.Tests.{eq-eqb, eqb-true, ne-eqb}
 use Rattle.depth.proofs.Dfs.{free-mark, tried-none, tried-marked, tried-new}
-use Rattle.depth.proofs.Finish.{grown-refl, grown-trans}
+use Rattle.depth.proofs.Finish.{Grown, grown-refl, grown-trans}
 use Rattle.depth.specs.Dfs.{St, unmarked, free, tried}
-use Rattle.depth.specs.Finish.{Grown, blank}
+use Rattle.depth.specs.Finish.{blank}
 use Rattle.graph.specs.Reach.{Edge}
 use Rattle.lists.proofs.Cases.{on, on-same, clash, or-right}
 use Rattle.lists.proofs.Count.{count-mono, count-le}
@@ -20,7 +20,13 @@ use Rattle.lists.proofs.Memb.{memb-self}
 use Rattle.lists.specs.Lists.{memb, Distinct, Below}
 use Rattle.walks.proofs.Walks.{reach-trans, reach-keeps}
 use Rattle.walks.specs.Walks.{Reach, here, step}
-use Rattle.depth.specs.Pre.{enter, climbs, walks, preorder, Full}
+use Rattle.depth.specs.Pre.{enter, climbs, walks, preorder}
+
+-- what is newly marked is reached from x, and every step of it leads to what is marked
+pub record Full (E : ℕ → ℕ → Bool) (n x : ℕ) (s t : St) : Type 0 where
+  pub grown : Grown n s t
+  pub sound : (v : ℕ) → v < n → unmarked (s .marks) v ≡ true → unmarked (t .marks) v ≡ false → Reach (Edge E n) x v
+  pub done : (v z : ℕ) → v < n → z < n → unmarked (s .marks) v ≡ true → unmarked (t .marks) v ≡ false → E v z ≡ true → unmarked (t .marks) z ≡ false
 
 -- one step of the k that are untried
 pub climbs-step : (E : ℕ → ℕ → Bool) (v : ℕ → St → St) (n x k : ℕ) (s : St) → 0 < k → k ≤ n → climbs E v x k (n - k) s ≡ climbs E v x (k - 1) (n - (k - 1)) (tried E v x (n - k) s)
