@@ -27,6 +27,7 @@ reply timed_get_bfs(T, uint32_t vertex, OUT);
 reply timed_topological_sort(T, OUT);
 reply timed_is_acyclic(T);
 reply timed_find_cut_vertices(T, OUT);
+reply timed_get_dfs(T, uint32_t vertex, OUT);
 reply timed_random_walk(T, uint32_t start, size_t steps, uint64_t seed, OUT);
 reply timed_write_frames(T, uint8_t *text, size_t text_bytes);
 
@@ -70,6 +71,7 @@ int main(void) {
     ANSWER("topological_sort, refused", "full, dense numbers", 9, 120000, timed_topological_sort(full, WORDS, out, ROOM));
     ANSWER("is_acyclic", "full, dense, lists ascending", 0, 120000, timed_is_acyclic(ascending, WORDS));
     QUERY("cut_vertices", 3000000, timed_find_cut_vertices(full, WORDS, out, ROOM));
+    QUERY("dfs", 80000, timed_get_dfs(full, WORDS, 0, out, ROOM));
     QUERY("write_frames", 200000, timed_write_frames(full, WORDS, text, sizeof text));
     QUERY("random_walk of 4,096 steps", 2500000, timed_random_walk(full, WORDS, 0, 4096, 1, out, ROOM));
     return 0;

@@ -1,15 +1,17 @@
--- Depth first, largest neighbour first: a number is marked when it is visited, and listed when its steps are tried.
--- Assumes nothing.
-use mathlib.Core.Path.{_≡_, refl, sym, ap}
-use mathlib.Core.Bool.{Bool, true, false, and-false}
+-- Laws of a visit and of the steps that it tries, one at a time. Assumes nothing.
+use mathlib.Core.Path.{_≡_, refl, sym, ap, _∙_}
+use mathlib.Core.Bool.{Bool, true, false, not, _&&_, and-false}
 use mathlib.Core.List.{List}
-use Prim.Native.Nat.{ℕ, suc, _-_, _<_}
+use Prim.Native.Nat.{ℕ, suc, _+_, _-_, _≤_, _<_}
 use native.Mathlib.Omega.{arith}
-use lib.Dec.{eqb}
+use lib.Dec.{eqb, ltb}
 use lib.ListN.{length, getD, set}
 use lib.Seq.{getD-set-same, getD-set-other}
+use mir.Val.{boolByte}
+use borrow.Author.Tests.{eqb-true, ne-eqb, lt-ltb}
+use Rattle.lists.proofs.Cases.{on-same, clash}
 use Rattle.lists.proofs.Count.{count-flip}
-use Rattle.depth.specs.Dfs.{St, unmarked, free, mark, finish, tried, tries, visits}
+use Rattle.depth.specs.Dfs.{St, unmarked, free, mark, enlist, tried, tries, visits}
 
 -- one number fewer is not marked
 pub free-mark : (n x : ℕ) (m : List ℕ) → x < n → x < length m → getD m x 0 ≡ 0 → free n m ≡ suc (free n (set m x 1))
@@ -19,6 +21,28 @@ free-mark n x m l b z =
     (ap (λ (i : ℕ). eqb i 0) (getD-set-same m x 1 0 b))
     (ap (λ (i : ℕ). eqb i 0) z)
     (λ y ne. ap (λ (i : ℕ). eqb i 0) (sym (getD-set-other m x y 1 0 ne)))
+
+-- ---- the code's test
+
+not-true : (b : Bool) → not b ≡ true → b ≡ false
+not-true true e = clash e refl
+not-true false e = refl
+
+not-false : (b : Bool) → not b ≡ false → b ≡ true
+not-false true e = refl
+not-false false e = clash refl e
+
+pub due-free : (a : Bool) (m : ℕ) → not (a && eqb m 0) ≡ false → m ≡ 0
+due-free true m e = eqb-true m 0 (not-false (eqb m 0) e)
+due-free false m e = clash refl e
+
+pub byte-le : (b : Bool) → boolByte b ≤ 1
+byte-le true = omega arith
+byte-le false = omega arith
+
+pub hindered-is : (a : Bool) (m : ℕ) → ltb 0 (boolByte (not a) + m) ≡ not (a && eqb m 0)
+hindered-is true m = on-same m 0 (λ e. rw e) (λ ne. lt-ltb 0 (0 + m) (omega arith) ∙ sym (ap not (ne-eqb m 0 ne)))
+hindered-is false m = lt-ltb 0 (1 + m) (omega arith)
 
 module _ (E : ℕ → ℕ → Bool) (v : ℕ → St → St) where
   pub tried-none : (x k : ℕ) (s : St) → E x k ≡ false → tried E v x k s ≡ s
@@ -33,6 +57,15 @@ module _ (E : ℕ → ℕ → Bool) (v : ℕ → St → St) where
   unfolding tried
   tried-new x k s e m = rw (e, m)
 
+  -- as the code tests it
+  pub tried-refused : (x k : ℕ) (s : St) → not (E x k && unmarked (s .marks) k) ≡ true → tried E v x k s ≡ s
+  unfolding tried
+  tried-refused x k s e = rw (not-true (E x k && unmarked (s .marks) k) e)
+
+  pub tried-due : (x k : ℕ) (s : St) → not (E x k && unmarked (s .marks) k) ≡ false → tried E v x k s ≡ v k s
+  unfolding tried
+  tried-due x k s e = rw (not-false (E x k && unmarked (s .marks) k) e)
+
   pub tries-step : (x k : ℕ) (s : St) → 0 < k → tries E v x k s ≡ tries E v x (k - 1) (tried E v x (k - 1) s)
   unfolding tries
   tries-step x k s l =
@@ -43,7 +76,7 @@ module _ (E : ℕ → ℕ → Bool) (v : ℕ → St → St) where
   unfolding tries
   tries-end x s = refl
 
-pub visits-more : (E : ℕ → ℕ → Bool) (n f x : ℕ) (s : St) → 0 < f → visits E n f x s ≡ finish x (tries E (visits E n (f - 1)) x n (mark x s))
+pub visits-more : (E : ℕ → ℕ → Bool) (n f x : ℕ) (s : St) → 0 < f → visits E n f x s ≡ enlist x (tries E (visits E n (f - 1)) x n (mark x s))
 unfolding visits
 visits-more E n f x s l =
     let e : f ≡ suc (f - 1) = omega arith in

@@ -12,11 +12,26 @@ use lib.ListN.{length, getD, replicate, length-set, length-replicate, getD-repli
 use lib.Seq.{getD-set-same, getD-set-other}
 use borrow.Author.Tests.{eq-eqb}
 use Rattle.depth.proofs.Dfs.{tried-none, tried-marked, tried-new}
-use Rattle.depth.specs.Dfs.{St, unmarked, mark, finish, tried, tries, visits}
+use Rattle.depth.specs.Dfs.{St, unmarked, mark, enlist, tried, tries, visits}
 use Rattle.lists.proofs.Cases.{on, on-same, clash, or-true, or-right}
 use Rattle.lists.proofs.Memb.{memb-append, memb-self, memb-snoc, memb-snoc-self, memb-left, distinct-snoc, below-snoc}
 use Rattle.lists.specs.Lists.{memb, Distinct, Below}
-use Rattle.depth.specs.Finish.{Grown, Visit, start, sweep, blank, finished}
+use Rattle.depth.specs.Finish.{start, sweep, blank, finished}
+
+-- from one state to another: the numbers that are newly marked are those that are newly listed, each once
+pub record Grown (n : ℕ) (s t : St) : Type 0 where
+  pub tail : List ℕ
+  pub out : t .out ≡ s .out ++ tail
+  pub wide : length (t .marks) ≡ length (s .marks)
+  pub keep : (v : ℕ) → unmarked (s .marks) v ≡ false → unmarked (t .marks) v ≡ false
+  pub once : Distinct tail
+  pub below : Below n tail
+  pub new : (v : ℕ) → memb v tail ≡ true → (unmarked (s .marks) v ≡ true) × (unmarked (t .marks) v ≡ false)
+  pub all : (v : ℕ) → v < n → unmarked (s .marks) v ≡ true → unmarked (t .marks) v ≡ false → memb v tail ≡ true
+
+-- what a visit needs: its number is below n, and not marked; the marks are as many as n or more
+abbrev pub Visit : ℕ → (ℕ → St → St) → Type 0
+Visit n v = (x : ℕ) (s : St) → x < n → n ≤ length (s .marks) → unmarked (s .marks) x ≡ true → Grown n s (v x s)
 
 -- two lists with no number in common
 pub distinct-append : (a b : List ℕ) → Distinct a → Distinct b → ((v : ℕ) → memb v a ≡ true → memb v b ≡ false) → Distinct (a ++ b)
@@ -70,7 +85,7 @@ module _ {n : ℕ} where
     other-x v ne = ap (λ (i : ℕ). eqb i 0) (getD-set-other (s .marks) x v 1 0 ne)
 
     -- x is marked, then others, and then x is listed
-    grown-visit : {t : St} → Grown n (mark x s) t → Grown n s (finish x t)
+    grown-visit : {t : St} → Grown n (mark x s) t → Grown n s (enlist x t)
     grown-visit {t} g =
         let absent : memb x (g .tail) ≡ false = on (memb x (g .tail)) (λ e. clash (g .new x e .0) marked-x) (λ e. e) in
         record {

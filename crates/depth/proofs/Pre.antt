@@ -1,8 +1,8 @@
 -- Depth first in preorder, smallest neighbour first: it lists what is reached from the start, each once. Assumes nothing.
-use mathlib.Core.Path.{_≡_, sym, ap, _∙_, subst}
+use mathlib.Core.Path.{_≡_, refl, sym, ap, _∙_, subst}
 use mathlib.Core.Bool.{Bool, true, false, _||_}
 use mathlib.Core.List.{_∷_}
-use Prim.Native.Nat.{ℕ, zero, suc, _+_, _≤_, _<_}
+use Prim.Native.Nat.{ℕ, zero, suc, _+_, _-_, _≤_, _<_}
 use native.Mathlib.Nat.{lt-irrefl}
 use native.Mathlib.Omega.{arith}
 use lib.Dec.{eqb}
@@ -10,17 +10,42 @@ use lib.ListN.{length, getD, replicate, length-set, length-replicate, getD-repli
 use lib.Seq.{getD-set-same, getD-set-other, append-snoc}
 use borrow.Author.Tests.{eq-eqb, eqb-true, ne-eqb}
 use Rattle.depth.proofs.Dfs.{free-mark, tried-none, tried-marked, tried-new}
-use Rattle.depth.proofs.Finish.{grown-refl, grown-trans}
+use Rattle.depth.proofs.Finish.{Grown, grown-refl, grown-trans}
 use Rattle.depth.specs.Dfs.{St, unmarked, free, tried}
-use Rattle.depth.specs.Finish.{Grown, blank}
+use Rattle.depth.specs.Finish.{blank}
 use Rattle.graph.specs.Reach.{Edge}
 use Rattle.lists.proofs.Cases.{on, on-same, clash, or-right}
 use Rattle.lists.proofs.Count.{count-mono, count-le}
 use Rattle.lists.proofs.Memb.{memb-self}
-use Rattle.lists.specs.Lists.{memb, Distinct}
+use Rattle.lists.specs.Lists.{memb, Distinct, Below}
 use Rattle.walks.proofs.Walks.{reach-trans, reach-keeps}
 use Rattle.walks.specs.Walks.{Reach, here, step}
-use Rattle.depth.specs.Pre.{enter, climbs, walks, preorder, Full}
+use Rattle.depth.specs.Pre.{enter, climbs, walks, preorder}
+
+-- what is newly marked is reached from x, and every step of it leads to what is marked
+pub record Full (E : ℕ → ℕ → Bool) (n x : ℕ) (s t : St) : Type 0 where
+  pub grown : Grown n s t
+  pub sound : (v : ℕ) → v < n → unmarked (s .marks) v ≡ true → unmarked (t .marks) v ≡ false → Reach (Edge E n) x v
+  pub done : (v z : ℕ) → v < n → z < n → unmarked (s .marks) v ≡ true → unmarked (t .marks) v ≡ false → E v z ≡ true → unmarked (t .marks) z ≡ false
+
+-- one step of the k that are untried
+pub climbs-step : (E : ℕ → ℕ → Bool) (v : ℕ → St → St) (n x k : ℕ) (s : St) → 0 < k → k ≤ n → climbs E v x k (n - k) s ≡ climbs E v x (k - 1) (n - (k - 1)) (tried E v x (n - k) s)
+unfolding climbs
+climbs-step E v n x k s l b =
+    let e : k ≡ suc (k - 1) = omega arith in
+    let j : suc (n - k) ≡ n - (k - 1) = omega arith in
+    ap (λ (i : ℕ). climbs E v x i (n - k) s) e ∙ ap (λ (i : ℕ). climbs E v x (k - 1) i (tried E v x (n - k) s)) j
+
+pub climbs-end : (E : ℕ → ℕ → Bool) (v : ℕ → St → St) (x j : ℕ) (s : St) → climbs E v x 0 j s ≡ s
+unfolding climbs
+climbs-end E v x j s = refl
+
+pub walks-more : (E : ℕ → ℕ → Bool) (n f x : ℕ) (s : St) → 0 < f → walks E n f x s ≡ climbs E (walks E n (f - 1)) x n (n - n) (enter x s)
+unfolding walks
+walks-more E n f x s l =
+    let e : f ≡ suc (f - 1) = omega arith in
+    let z : 0 ≡ n - n = omega arith in
+    ap (λ (i : ℕ). walks E n i x s) e ∙ ap (λ (i : ℕ). climbs E (walks E n (f - 1)) x n i (enter x s)) z
 
 free-falls : (n : ℕ) (s t : St) → Grown n s t → free n (t .marks) ≤ free n (s .marks)
 unfolding free
@@ -120,6 +145,10 @@ module _ (E : ℕ → ℕ → Bool) (n : ℕ) where
     pub preorder-once : Distinct (preorder E n x)
     unfolding preorder
     preorder-once = subst Distinct (sym (all .0 .grown .out)) (all .0 .grown .once)
+
+    pub preorder-below : Below n (preorder E n x)
+    unfolding preorder
+    preorder-below = subst (Below n) (sym (all .0 .grown .out)) (all .0 .grown .below)
 
     pub preorder-sound : (y : ℕ) → y < n → memb y (preorder E n x) ≡ true → Reach (Edge E n) x y
     unfolding preorder

@@ -5,23 +5,19 @@ use mathlib.Core.List.{List}
 use Prim.Native.Nat.{ℕ, _+_, _-_, _≤_, _<_}
 use native.Mathlib.Nat.{sub-zero}
 use native.Mathlib.Omega.{arith}
-use lib.ListN.{replicate, length-replicate}
+use lib.ListN.{replicate}
 use Rattle.depth.proofs.Finish.{sweep-step, sweep-end}
-use Rattle.depth.specs.Dfs.{St, free, unmarked}
+use Rattle.depth.proofs.Went.{free-le, fit-blank}
+use Rattle.depth.specs.Dfs.{St}
 use Rattle.depth.specs.Finish.{start, sweep, finished}
 use Rattle.depth.specs.Went.{st, Went}
-use Rattle.lists.proofs.Count.{count-le}
 use Rattle.depth.specs.Swept.{Swept, Finishes}
-
-pub free-le : (n : ℕ) (m : List ℕ) → free n m ≤ n
-unfolding free
-free-le n m = count-le (unmarked m) n
 
 module _ {E : ℕ → ℕ → Bool} {n : ℕ} where
   pub swept-first : n ≤ 256 → Swept E n (replicate 256 0) (replicate 256 0) 0 0
   swept-first b = record {
     within = omega arith;
-    fit = record { small = b; wide = length-replicate {A = ℕ} 256 0; long = length-replicate {A = ℕ} 256 0; room = omega (arith, free-le n (replicate 256 0)) };
+    fit = fit-blank n b;
     is = rw sub-zero;
   }
 

@@ -1,5 +1,4 @@
--- Depth first, largest neighbour first: a number is marked when it is visited, and listed when its steps are tried.
--- Assumes nothing.
+-- Depth first, largest neighbour first: a number is marked when it is visited, and listed when its steps are tried. Assumes nothing.
 use mathlib.Core.Bool.{Bool, _&&_, cond}
 use mathlib.Core.List.{List, [], _∷_, _++_}
 use Prim.Native.Nat.{ℕ, zero, suc}
@@ -7,10 +6,12 @@ use lib.Dec.{eqb}
 use lib.ListN.{getD, set}
 use Rattle.lists.specs.Tests.{count}
 
+-- the marks, and the listing so far
 pub record St : Type 0 where
   pub marks : List ℕ
   pub out : List ℕ
 
+-- k is not marked
 abbrev pub unmarked : List ℕ → ℕ → Bool
 unmarked m k = eqb (getD m k 0) 0
 
@@ -18,11 +19,13 @@ unmarked m k = eqb (getD m k 0) 0
 unfoldable pub free : ℕ → List ℕ → ℕ
 free n m = count (unmarked m) n
 
+-- x is marked
 abbrev pub mark : ℕ → St → St
 mark x s = record { marks = set (s .marks) x 1; out = s .out }
 
-abbrev pub finish : ℕ → St → St
-finish x s = record { marks = s .marks; out = s .out ++ (x ∷ []) }
+-- x comes last in the listing
+abbrev pub enlist : ℕ → St → St
+enlist x s = record { marks = s .marks; out = s .out ++ (x ∷ []) }
 
 -- the step from x to k is tried: where there is one, and k is not marked, k is visited
 unfoldable pub tried : (ℕ → ℕ → Bool) → (ℕ → St → St) → ℕ → ℕ → St → St
@@ -36,4 +39,4 @@ tries E v x (suc k) s = tries E v x k (tried E v x k s)
 -- x is visited; f is at least the numbers that are not marked
 unfoldable pub visits : (ℕ → ℕ → Bool) → ℕ → ℕ → ℕ → St → St
 visits E n zero x s = s
-visits E n (suc f) x s = finish x (tries E (visits E n f) x n (mark x s))
+visits E n (suc f) x s = enlist x (tries E (visits E n f) x n (mark x s))

@@ -9,7 +9,7 @@ use Rattle.depth.specs.Went.{st, Fit}
 
 pub record Swept (E : ℕ → ℕ → Bool) (n : ℕ) (m o : List ℕ) (t x : ℕ) : Type 0 where
   pub within : x ≤ n
-  pub fit : Fit n m o t
+  pub fit : Fit n m o t 0
   pub is : sweep E n (n - x) x (st m o t) ≡ sweep E n n 0 blank
 
 -- the listing stands in the first t places of o

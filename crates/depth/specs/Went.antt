@@ -1,20 +1,24 @@
 -- What a call of the search does to the marks m, the listing in the first t places of o, and t. Assumes nothing.
 use mathlib.Core.Path.{_≡_}
-use mathlib.Core.Bool.{Bool}
 use mathlib.Core.List.{List}
-use Prim.Native.Nat.{ℕ, _+_, _≤_}
+use Prim.Native.Nat.{ℕ, _+_, _-_, _≤_, _<_}
 use lib.ListN.{length, take}
-use Rattle.depth.specs.Dfs.{St, free, tries, visits}
+use Rattle.depth.specs.Dfs.{St, free}
 
 abbrev pub st : List ℕ → List ℕ → ℕ → St
 st m o t = record { marks = m; out = take t o }
 
--- there is room for every number that is not marked
-pub record Fit (n : ℕ) (m o : List ℕ) (t : ℕ) : Type 0 where
+-- after one of k neighbours is tried, where so many of n numbers are marked
+pub record Untried (n k marked r : ℕ) : Type 0 where
+  pub none : n ≤ marked → r ≡ 0
+  pub rest : marked < n → r ≡ k - 1
+
+-- there is room for every number that is not marked, and for the d that are being visited
+pub record Fit (n : ℕ) (m o : List ℕ) (t d : ℕ) : Type 0 where
   pub small : n ≤ 256
   pub wide : length m ≡ 256
   pub long : length o ≡ 256
-  pub room : t + free n m ≤ n
+  pub room : t + d + free n m ≤ n
 
 pub record Went (spec : ℕ → St → St) (n : ℕ) (m o : List ℕ) (t : ℕ) (m′ o′ : List ℕ) (t′ : ℕ) : Type 0 where
   pub is : (f : ℕ) → free n m ≤ f → spec f (st m o t) ≡ st m′ o′ t′
@@ -23,10 +27,10 @@ pub record Went (spec : ℕ → St → St) (n : ℕ) (m o : List ℕ) (t : ℕ) 
   pub wide : length m′ ≡ 256
   pub long : length o′ ≡ 256
 
--- while the steps of x are tried: k are untried, and to try them makes what to try all would have made at the start, of the marks m₁
-pub record Going (E : ℕ → ℕ → Bool) (n x : ℕ) (m₁ o₁ : List ℕ) (t : ℕ) (m o : List ℕ) (e k : ℕ) : Type 0 where
+-- while steps are tried: k are untried, and to try them makes what to try all n would have made at the start, of the marks m₁
+pub record Going (todo : ℕ → ℕ → St → St) (n : ℕ) (m₁ o₁ : List ℕ) (t : ℕ) (m o : List ℕ) (e k : ℕ) : Type 0 where
   pub left : k ≤ n
-  pub is : (f : ℕ) → free n m₁ ≤ f → tries E (visits E n f) x k (st m o e) ≡ tries E (visits E n f) x n (st m₁ o₁ t)
+  pub is : (f : ℕ) → free n m₁ ≤ f → todo f k (st m o e) ≡ todo f n (st m₁ o₁ t)
   pub grew : t ≤ e
   pub same : e + free n m ≡ t + free n m₁
   pub wide : length m ≡ 256

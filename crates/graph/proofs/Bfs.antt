@@ -1,5 +1,4 @@
--- Breadth first from a start, smallest neighbour first: a queue, in which a number stands once.
--- Assumes nothing.
+-- Breadth first lists exactly what is reached from its start, each once. Assumes nothing.
 use mathlib.Core.Path.{_≡_, refl, sym, ap, _∙_, subst}
 use mathlib.Core.Bool.{Bool, true, false, not, and-false}
 use mathlib.Core.Logic.{⊎-elim}
@@ -18,7 +17,16 @@ use Rattle.lists.proofs.Memb.{memb-self, memb-left, memb-getD, memb-at, memb-sn
 use Rattle.lists.specs.Lists.{memb, Distinct, Below}
 use Rattle.walks.proofs.Walks.{reach-keeps}
 use Rattle.walks.specs.Walks.{Reach, here, step}
-use Rattle.graph.specs.Bfs.{push, spread, run, bfs, Served}
+use Rattle.graph.specs.Bfs.{push, spread, run, bfs}
+
+-- what the queue keeps while it is served from place k on: numbers below n, none twice, each reached from s, and of those before k every step leads into it
+pub record Served (E : ℕ → ℕ → Bool) (n s k : ℕ) (q : List ℕ) : Type 0 where
+  pub once : Distinct q
+  pub below : Below n q
+  pub within : k ≤ length q
+  pub start : memb s q ≡ true
+  pub sound : (y : ℕ) → memb y q ≡ true → Reach (Edge E n) s y
+  pub done : (i z : ℕ) → i < k → z < n → E (getD q i 0) z ≡ true → memb z q ≡ true
 
 module _ (E : ℕ → ℕ → Bool) where
   pub push-new : (x : ℕ) (q : List ℕ) (j : ℕ) → E x j ≡ true → memb j q ≡ false → push E x q j ≡ q ++ (j ∷ [])
@@ -32,19 +40,6 @@ module _ (E : ℕ → ℕ → Bool) where
   pub push-old : (x : ℕ) (q : List ℕ) (j : ℕ) → memb j q ≡ true → push E x q j ≡ q
   unfolding push
   push-old x q j e = rw (e, and-false)
-
-  -- the round from j on, one number at a time: the code's loop
-  pub spread-step : (n x j : ℕ) (q : List ℕ) → j < n → spread E x (n - j) j q ≡ spread E x (n - (j + 1)) (j + 1) (push E x q j)
-  unfolding spread
-  spread-step n x j q l =
-      let e : n - j ≡ suc (n - (j + 1)) = omega arith in
-      rw (e, add-one j)
-
-  pub spread-end : (n x j : ℕ) (q : List ℕ) → n ≤ j → spread E x (n - j) j q ≡ q
-  unfolding spread
-  spread-end n x j q l =
-      let e : n - j ≡ 0 = omega arith in
-      rw e
 
   -- what a new number keeps, the whole round keeps
   pub push-keeps : (P : List ℕ → Type 0) (x : ℕ) (q : List ℕ) (j : ℕ)
@@ -100,7 +95,7 @@ module _ (E : ℕ → ℕ → Bool) (n : ℕ) where
       rw (e, add-one k) (run-more (n - suc k) k q l)
 
 module _ (E : ℕ → ℕ → Bool) (n s : ℕ) where
-  served-first : s < n → Served E n s 0 (s ∷ [])
+  pub served-first : s < n → Served E n s 0 (s ∷ [])
   served-first h = record {
     once = (refl, tt);
     below = (h, tt);
@@ -113,7 +108,7 @@ module _ (E : ℕ → ℕ → Bool) (n s : ℕ) where
       memb-snoc-none : (y : ℕ) → (y ≡ s → ⊥) → memb y (s ∷ []) ≡ false
       memb-snoc-none y ne = rw (ne-eqb y s ne)
 
-  served-more : (k : ℕ) (q : List ℕ) → k < length q → Served E n s k q → Served E n s (suc k) (spread E (getD q k 0) n 0 q)
+  pub served-more : (k : ℕ) (q : List ℕ) → k < length q → Served E n s k q → Served E n s (suc k) (spread E (getD q k 0) n 0 q)
   served-more k q l v =
       let x : ℕ = getD q k 0 in
       let q′ : List ℕ = spread E x n 0 q in
@@ -134,7 +129,7 @@ module _ (E : ℕ → ℕ → Bool) (n s : ℕ) where
             (λ ne. kept z (v .done i z (omega arith) hz (subst (λ (w : ℕ). E w z ≡ true) (place i (omega arith)) e)));
       }
 
-  run-end-zero : (i : ℕ) (w : List ℕ) → run E n zero i w ≡ w
+  pub run-end-zero : (i : ℕ) (w : List ℕ) → run E n zero i w ≡ w
   unfolding run
   run-end-zero i w = refl
 
@@ -155,7 +150,7 @@ module _ (E : ℕ → ℕ → Bool) (n s : ℕ) where
       subst (λ (w : List ℕ). Served E n s (length w) w) (sym (run-end E n (suc f) k q l))
       (subst (λ (i : ℕ). Served E n s i q) (le-antisymm (v .within) l) v))
 
-  bfs-served : s < n → Served E n s (length (bfs E n s)) (bfs E n s)
+  pub bfs-served : s < n → Served E n s (length (bfs E n s)) (bfs E n s)
   unfolding bfs
   bfs-served h = run-served n 0 (s ∷ []) (omega arith) (served-first h)
 

@@ -1,3 +1,6 @@
 pub mod Bfs
 pub mod Held
+pub mod Outside
+pub mod Sifted
 pub mod Post
+pub mod Levels

@@ -1,4 +1,4 @@
--- Assumes nothing.
+-- The marks of a search say what is reached. Assumes nothing.
 use mathlib.Core.Path.{_≡_, ap, _∙_}
 use mathlib.Core.Bool.{Bool, false}
 use mathlib.Core.List.{List}

@@ -1,4 +1,4 @@
--- Assumes nothing.
+-- What the marks say after a search. Assumes nothing.
 use mathlib.Core.Path.{_≡_}
 use mathlib.Core.Bool.{Bool}
 use mathlib.Core.List.{List}

@@ -1,4 +1,4 @@
--- Steps, walks and closed walks of a finite directed graph on the positions below n. Assumes nothing.
+-- Steps between the numbers below n, as a matrix of marks holds them. Assumes nothing.
 use mathlib.Core.Path.{_≡_}
 use mathlib.Core.Bool.{Bool, true}
 use mathlib.Core.List.{List}

@@ -156,6 +156,11 @@ pub extern "C" fn timed_find_cut_vertices(t: &[u32], out: &mut [u32]) -> Reply {
 }
 
 #[no_mangle]
+pub extern "C" fn timed_get_dfs(t: &[u32], v: VertexIndex, out: &mut [u32]) -> Reply {
+    layout::reply_of(traversal::get_dfs(t, v, out))
+}
+
+#[no_mangle]
 pub extern "C" fn timed_random_walk(
     t: &[u32],
     start: VertexIndex,

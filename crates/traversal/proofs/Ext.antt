@@ -1,4 +1,4 @@
--- Breadth first sees of a relation what it says of the numbers below n. Assumes nothing.
+-- A search sees of a relation what it says of the numbers below n. Assumes nothing.
 use mathlib.Core.Path.{_≡_, refl, ap, _∙_}
 use mathlib.Core.Bool.{Bool, not, _&&_, cond}
 use mathlib.Core.List.{List, [], _∷_, _++_}
@@ -12,6 +12,9 @@ use Rattle.lists.proofs.Cases.{on}
 use Rattle.lists.proofs.Memb.{memb-getD, below-memb, below-snoc}
 use Rattle.graph.specs.Bfs.{push, spread, run, bfs}
 use Rattle.graph.proofs.Bfs.{spread-keeps}
+use Rattle.depth.specs.Dfs.{St, tried}
+use Rattle.depth.specs.Finish.{blank}
+use Rattle.depth.specs.Pre.{enter, climbs, walks, preorder}
 
 module _ (E F : ℕ → ℕ → Bool) (n : ℕ) (h : (i j : ℕ) → i < n → j < n → E i j ≡ F i j) where
   spread-ext : (x : ℕ) → x < n → (m j : ℕ) (q : List ℕ) → j + m ≤ n → spread E x m j q ≡ spread F x m j q
@@ -35,3 +38,22 @@ module _ (E F : ℕ → ℕ → Bool) (n : ℕ) (h : (i j : ℕ) → i < n → j
   pub bfs-ext : (s : ℕ) → s < n → bfs E n s ≡ bfs F n s
   unfolding bfs
   bfs-ext s l = run-ext n 0 (s ∷ []) (l, tt)
+
+  tried-ext : (v w : ℕ → St → St) → ((k : ℕ) (s : St) → k < n → v k s ≡ w k s) → (x k : ℕ) (s : St) → x < n → k < n → tried E v x k s ≡ tried F w x k s
+  unfolding tried
+  tried-ext v w g x k s lx lk = rw (h x k lx lk, g k s lk)
+
+  climbs-ext : (v w : ℕ → St → St) → ((k : ℕ) (s : St) → k < n → v k s ≡ w k s) → (x : ℕ) → x < n → (m j : ℕ) (s : St) → j + m ≤ n → climbs E v x m j s ≡ climbs F w x m j s
+  unfolding climbs
+  climbs-ext v w g x lx zero j s b = refl
+  climbs-ext v w g x lx (suc m) j s b =
+      ap (climbs E v x m (suc j)) (tried-ext v w g x j s lx (omega arith)) ∙ climbs-ext v w g x lx m (suc j) (tried F w x j s) (omega arith)
+
+  walks-ext : (f x : ℕ) (s : St) → x < n → walks E n f x s ≡ walks F n f x s
+  unfolding walks
+  walks-ext zero x s l = refl
+  walks-ext (suc f) x s l = climbs-ext (walks E n f) (walks F n f) (λ k u b. walks-ext f k u b) x l n 0 (enter x s) (omega arith)
+
+  pub preorder-ext : (s : ℕ) → s < n → preorder E n s ≡ preorder F n s
+  unfolding preorder
+  preorder-ext s l = ap (λ (t : St). t .out) (walks-ext n s blank l)

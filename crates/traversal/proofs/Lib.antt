@@ -1,5 +1,8 @@
 pub mod Ext
 pub mod Mapped
+pub mod Searches
 pub mod Reaching
-pub mod Walks
 pub mod Listing
+pub mod Walks
+pub mod Steps
+pub mod Sheet

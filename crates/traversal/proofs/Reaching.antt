@@ -27,7 +27,7 @@ use Rattle.graph.proofs.Bfs.{bfs-below}
 use Rattle.steps.specs.Matrices.{numberOf, stepsBetween, Holds}
 use Rattle.steps.proofs.Holds.{holds-matrix}
 use Rattle.steps.proofs.Records.{record-once}
-use Rattle.traversal.specs.Traversal.{breadthFrom, breadthFirst, reachable, reachableResult}
+use Rattle.traversal.specs.Traversal.{listFrom, traversal, reachable, reachableResult}
 use Rattle.traversal.proofs.Ext.{bfs-ext}
 use Rattle.traversal.proofs.Mapped.{memb-image}
 
@@ -67,7 +67,7 @@ module _ (ws : List ℕ) (x y : ℕ) where
     module _ (f : Formed limit ws) (j : ℕ) (h : p ≡ At j) where
       -- in terms of the records
       reached-here : reachable (read limit ws) x y ≡ memb j (bfs (stepsBetween (read limit ws)) (vertexCount ws) i)
-      unfolding reachable breadthFirst breadthFrom
+      unfolding reachable traversal listFrom
       reached-here =
           let l : List ℕ = bfs (stepsBetween (read limit ws)) (vertexCount ws) i in
           rw (ei, live-length limit ws, ← position-found y (liveVertices (read limit ws)) j (sym e ∙ h) .1)

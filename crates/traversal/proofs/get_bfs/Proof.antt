@@ -10,8 +10,8 @@ well-formed-requires c κs = search needs
 returns : tie.Need-returns
 returns c = search on-unformed
 
-breadth-first-requires : tie.Need-breadth-first-requires
-breadth-first-requires c κs = search formed-by
+traverse-requires : tie.Need-traverse-requires
+traverse-requires c κs = search formed-by
 
 same-length : tie.Need-same-length
 same-length c = search needs
@@ -21,4 +21,4 @@ returns-2 c = search on-formed
 
 pub get-bfs-spec : {M : Type 1} → statement M
 get-bfs-spec =
-    tie.close (tie.spec well-formed-requires returns breadth-first-requires same-length returns-2)
+    tie.close (tie.spec well-formed-requires returns traverse-requires same-length returns-2)

@@ -1,9 +1,9 @@
--- `traversal::breadth_first` meets its contract. Assumes nothing.
+-- `traversal::traverse` meets its contract. Assumes nothing.
 use Rattle.traversal.proofs.Reaching.{found-below}
 use Rattle.traversal.proofs.Listing.{start-missing, start-found}
 use borrow.Author.Needs.{needs}
-use Rattle.traversal.proofs.breadth_first.Statement.{statement}
-use Rattle.traversal.proofs.breadth_first.Tie as tie
+use Rattle.traversal.proofs.traverse.Statement.{statement}
+use Rattle.traversal.proofs.traverse.Tie as tie
 
 find-vertex-requires : tie.Need-find-vertex-requires
 find-vertex-requires c κs = search needs
@@ -26,8 +26,8 @@ same-length c = search needs
 returns-2 : tie.Need-returns-2
 returns-2 c = search start-found
 
-pub breadth-first-spec : {M : Type 1} → statement M
-breadth-first-spec =
+pub traverse-spec : {M : Type 1} → statement M
+traverse-spec =
     tie.close
     (tie.spec
     find-vertex-requires
