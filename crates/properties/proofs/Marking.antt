@@ -34,7 +34,7 @@ unfolding any
 any-ext f g [] h = refl
 any-ext f g (x ∷ xs) h = ap₂ _||_ (h x) (any-ext f g xs h)
 
-any-memb : (y : ℕ) (xs : List ℕ) → any (eqb y) xs ≡ memb y xs
+pub any-memb : (y : ℕ) (xs : List ℕ) → any (eqb y) xs ≡ memb y xs
 unfolding any
 any-memb y [] = refl
 any-memb y (x ∷ xs) = ap (λ (b : Bool). eqb y x || b) (any-memb y xs)
@@ -111,7 +111,7 @@ module _ {marks : List Bool} {k : ℕ} {rest : List Bool} (w : Turned marks k re
   turned-end h i l = w .each i (omega arith)
 
 -- from no marks on
-marks-are : (live : List ℕ) (p : ℕ → Bool) (old : List Bool) → MarkedBy live p noMarks old → (k : ℕ) → k < vertexLimit → k < length live → isMarked old k ≡ p (getD live k 0)
+pub marks-are : (live : List ℕ) (p : ℕ → Bool) (old : List Bool) → MarkedBy live p noMarks old → (k : ℕ) → k < vertexLimit → k < length live → isMarked old k ≡ p (getD live k 0)
 unfolding noMarks
 marks-are live p old b k h l = b .each k l ∙ ap (λ (t : Bool). t || p (getD live k 0)) (getD-replicate vertexLimit k false false h)
 

@@ -14,8 +14,13 @@ ghost use Rattle.layout.specs.Answers.{result, onFormed, listed};
 ghost use Rattle.marks.specs.Marks.{isMarked, marked};
 ghost use Rattle.lookups.specs.Lookups.{someOf, with, noMarks, MarkedBy};
 ghost use Rattle.properties.specs.Properties.{counted, twice, uniform};
-ghost use Rattle.properties.specs.Results.{orphanVerticesResult, orphanHyperedgesResult, endpointsResult, uniformResult};
+ghost use Rattle.properties.specs.Results.{orphanVerticesResult, orphanHyperedgesResult, endpointsResult, uniformResult, inclusionsResult, nestednessResult};
 ghost use Rattle.properties.specs.State.{inCut, Wrote};
+
+mod inclusions;
+mod nestedness;
+mod sets;
+
 use layout::Answer;
 
 // Marks the members of a list.
@@ -183,4 +188,24 @@ pub fn get_endpoints(t: &[u32], out: &mut [u32]) -> Answer
         return Answer::NotWellFormed;
     }
     list_endpoints(t, out)
+}
+
+// The pairs of hyperedges of which the first's distinct members are strictly within the second's.
+pub fn get_inclusions(t: &[u32], out: &mut [u32]) -> Answer
+    ensures { λ r. ⌜ result r (now (out .exit)) ≡ onFormed (now (t .entry)) (now (out .entry)) (inclusionsResult (now (out .entry))) ⌝ }
+{
+    if !formed::well_formed(t) {
+        return Answer::NotWellFormed;
+    }
+    inclusions::list_inclusions(t, out)
+}
+
+// A row of size, included and total for each size that some hyperedge has.
+pub fn get_nestedness_profile(t: &[u32], out: &mut [u32]) -> Answer
+    ensures { λ r. ⌜ result r (now (out .exit)) ≡ onFormed (now (t .entry)) (now (out .entry)) (nestednessResult (now (out .entry))) ⌝ }
+{
+    if !formed::well_formed(t) {
+        return Answer::NotWellFormed;
+    }
+    nestedness::list_profile(t, out)
 }

@@ -1,0 +1,130 @@
+-- Laws of the matrix of member sets and of its sizes. Assumes nothing.
+use mathlib.Core.Path.{_≡_, refl, sym, ap, ap₂, _∙_, subst}
+use mathlib.Core.Bool.{Bool, true, false, not, cond, _||_}
+use mathlib.Core.List.{List}
+use Prim.Native.Nat.{ℕ, _+_, _*_, _≤_, _<_}
+use native.Mathlib.Nat.{lt-irrefl, le-antisymm}
+use native.Mathlib.Omega.{arith}
+use lib.Dec.{eqb}
+use lib.ListN.{length, getD, set, length-set}
+use lib.Seq.{getD-set-same, getD-set-other}
+use Rattle.lists.specs.Tests.{every, count}
+use Rattle.lists.specs.Lists.{any, memb}
+use Rattle.lists.proofs.Cases.{on-same}
+use Rattle.lists.proofs.Tab.{length-tab}
+use Rattle.lists.proofs.Count.{count-ext}
+use Rattle.lists.proofs.Every.{every-on, every-no, every-end}
+use Rattle.layout.specs.Content.{liveVertices, lists}
+use Rattle.layout.specs.Layout.{limit, vertexLimit, vertexCount, hyperedgeCount, vertexAt, hyperedgeAt, membersAt, readVertices, read}
+use Rattle.layout.specs.WellFormed.{Formed}
+use Rattle.layout.proofs.Read.{live-length}
+use Rattle.marks.specs.Marks.{isMarked}
+use Rattle.steps.specs.Matrices.{cell}
+use Rattle.lookups.specs.Lookups.{someOf, noMarks, MarkedBy}
+use Rattle.properties.specs.Properties.{memberSet, size, under, within, strictlyWithin, isWithin}
+use Rattle.properties.specs.State.{rowOf, SetOf, RowPut, Sets}
+use Rattle.properties.proofs.Marking.{any-memb, marks-are}
+use Rattle.properties.proofs.Subsets.{strict-no, strict-if, within-ext}
+
+-- ---- the marks of a record: ms is what `members_formed` returned
+
+pub set-marked : (ws : List ℕ) → Formed limit ws → (j : ℕ) (ms : List ℕ) (marks : List Bool) → ms ≡ membersAt limit ws j
+    → MarkedBy (liveVertices (read limit ws)) (someOf eqb ms) noMarks marks → SetOf ws j (isMarked marks)
+unfolding someOf memberSet
+set-marked ws f j ms marks e b i h =
+    marks-are (liveVertices (read limit ws)) (λ y. any (eqb y) ms) marks b i (omega (arith, f .shape .vertices-le)) (rw live-length h)
+    ∙ any-memb (getD (liveVertices (read limit ws)) i 0) ms ∙ ap (memb (getD (liveVertices (read limit ws)) i 0)) e
+
+-- ---- the loop over i that puts a row
+
+pub record Putting (marks : List Bool) (j : ℕ) (old : List Bool) (k : ℕ) (new : List Bool) : Type 0 where
+  pub sized : length new ≡ length old
+  pub here : (i : ℕ) → i < k → isMarked new (cell j i) ≡ isMarked marks i
+  pub rest : (r i : ℕ) → i < vertexLimit → (r ≡ j → ⊥) → isMarked new (cell r i) ≡ isMarked old (cell r i)
+
+pub putting-none : (marks : List Bool) (j : ℕ) (old : List Bool) → Putting marks j old 0 old
+putting-none marks j old = record { sized = refl; here = λ i h. absurd (lt-irrefl 0 (omega arith)); rest = λ r i h ne. refl }
+
+module _ {marks : List Bool} {j : ℕ} {old : List Bool} {k : ℕ} {new : List Bool} (w : Putting marks j old k new) where
+  pub putting-more : j < vertexLimit → length old ≡ vertexLimit * vertexLimit → k < vertexLimit → Putting marks j old (k + 1) (set new (cell j k) (isMarked marks k))
+  putting-more hj n h = record {
+    sized = length-set new (cell j k) (isMarked marks k) ∙ w .sized;
+    here = λ i l. on-same i k
+        (λ s. rw (s, getD-set-same new (cell j k) (isMarked marks k) false (omega (arith, w .sized))))
+        (λ ne. getD-set-other new (cell j k) (cell j i) (isMarked marks k) false (λ q. ne (omega arith)) ∙ w .here i (omega arith));
+    rest = λ r i l ne. getD-set-other new (cell j k) (cell r i) (isMarked marks k) false (λ q. ne (omega arith)) ∙ w .rest r i l ne;
+  }
+
+  pub putting-end : vertexLimit ≤ k → RowPut marks j old new
+  putting-end h = record { sized = w .sized; here = λ i l. w .here i (omega arith); rest = w .rest }
+
+-- ---- the loop over j along the records
+
+vertices-length : (ws : List ℕ) → length (readVertices ws) ≡ vertexCount ws
+vertices-length ws = length-tab (vertexAt ws) (vertexCount ws)
+
+pub sets-none : (ws : List ℕ) (m : List Bool) (sizes : List ℕ) → length m ≡ vertexLimit * vertexLimit → length sizes ≡ vertexLimit → Sets ws 0 m sizes
+sets-none ws m sizes a b = record {
+  marks-sized = a;
+  sizes-sized = b;
+  marks = λ j h. absurd (lt-irrefl 0 (omega arith));
+  counts = λ j h. absurd (lt-irrefl 0 (omega arith));
+}
+
+module _ {ws : List ℕ} {j : ℕ} {m : List Bool} {sizes : List ℕ} (w : Sets ws j m sizes) where
+  -- marks is what `member_marks` returned, next what `put_row` left, c what `count_marked` found
+  pub sets-more : (marks next : List Bool) (n c : ℕ) → Formed limit ws → n ≡ vertexCount ws → j < hyperedgeCount ws → SetOf ws j (isMarked marks) → RowPut marks j m next
+      → c ≡ count (isMarked marks) n → Sets ws (j + 1) next (set sizes j c)
+  unfolding size
+  sets-more marks next n c f e h s r q =
+      let below : j < vertexLimit = omega (arith, f .shape .hyperedges-le) in
+      record {
+        marks-sized = r .sized ∙ w .marks-sized;
+        sizes-sized = length-set sizes j c ∙ w .sizes-sized;
+        marks = λ i l. on-same i j
+            (λ o. subst (λ (x : ℕ). SetOf ws x (rowOf next x)) (sym o) (λ x y. r .here x (omega (arith, f .shape .vertices-le)) ∙ s x y))
+            (λ ne. λ x y. r .rest i x (omega (arith, f .shape .vertices-le)) ne ∙ w .marks i (omega arith) x y);
+        counts = λ i l. on-same i j
+            (λ o. rw (o, getD-set-same sizes j c 0 (omega (arith, w .sizes-sized))) (q ∙ counted))
+            (λ ne. getD-set-other sizes j i c 0 ne ∙ w .counts i (omega arith));
+      }
+    where
+      counted : count (isMarked marks) n ≡ count (memberSet (read limit ws) (hyperedgeAt limit ws j)) (length (readVertices ws))
+      counted =
+          ap (count (isMarked marks)) (e ∙ sym (vertices-length ws))
+          ∙ count-ext (isMarked marks) (memberSet (read limit ws) (hyperedgeAt limit ws j)) (length (readVertices ws)) (λ i l. s i (rw vertices-length at l))
+
+  pub sets-end : (k : ℕ) → k ≡ hyperedgeCount ws → j ≤ k → k ≤ j → Sets ws (hyperedgeCount ws) m sizes
+  sets-end k e a b = subst (λ (i : ℕ). Sets ws i m sizes) (le-antisymm a b ∙ e) w
+
+-- ---- one set within another: r is what `under` found of the two marks at i
+
+module _ (m : List Bool) (n a b i : ℕ) where
+  module _ (r : Bool) (e : r ≡ cond (isMarked m (cell a i)) (isMarked m (cell b i)) true) where
+    pub within-on : every (under (rowOf m a) (rowOf m b)) i ≡ true → not r ≡ false → every (under (rowOf m a) (rowOf m b)) (i + 1) ≡ true
+    unfolding under
+    within-on inv h = every-on (under (rowOf m a) (rowOf m b)) n i r e inv h
+
+    pub within-no : i < n → not r ≡ true → false ≡ within n (rowOf m a) (rowOf m b)
+    unfolding within under
+    within-no l h = every-no (under (rowOf m a) (rowOf m b)) n i r e l h
+
+  pub within-end : every (under (rowOf m a) (rowOf m b)) i ≡ true → i ≤ n → n ≤ i → true ≡ within n (rowOf m a) (rowOf m b)
+  unfolding within
+  within-end inv x y = every-end (under (rowOf m a) (rowOf m b)) n i inv x y
+
+-- ---- strictly: the code compared the sizes of records a and b
+
+module _ (ws : List ℕ) (m : List Bool) (sizes : List ℕ) (w : Sets ws (hyperedgeCount ws) m sizes) (a b : ℕ) (ha : a < hyperedgeCount ws) (hb : b < hyperedgeCount ws) where
+  pub sizes-no : getD sizes b 0 ≤ getD sizes a 0 → false ≡ isWithin (read limit ws) (hyperedgeAt limit ws a) (hyperedgeAt limit ws b)
+  unfolding isWithin size
+  sizes-no h = strict-no (length (readVertices ws)) (memberSet (read limit ws) (hyperedgeAt limit ws a)) (memberSet (read limit ws) (hyperedgeAt limit ws b)) (omega (arith, w .counts a ha, w .counts b hb))
+
+  pub sizes-if : (n : ℕ) (r : Bool) → n ≡ vertexCount ws → getD sizes a 0 < getD sizes b 0 → r ≡ within n (rowOf m a) (rowOf m b)
+      → r ≡ isWithin (read limit ws) (hyperedgeAt limit ws a) (hyperedgeAt limit ws b)
+  unfolding isWithin size
+  sizes-if n r e h q =
+      q ∙ within-ext n (rowOf m a) (rowOf m b) (memberSet (read limit ws) (hyperedgeAt limit ws a)) (memberSet (read limit ws) (hyperedgeAt limit ws b))
+      (λ i l. w .marks a ha i (omega arith)) (λ i l. w .marks b hb i (omega arith))
+      ∙ ap (λ (k : ℕ). within k (memberSet (read limit ws) (hyperedgeAt limit ws a)) (memberSet (read limit ws) (hyperedgeAt limit ws b))) (e ∙ sym (vertices-length ws))
+      ∙ strict-if (length (readVertices ws)) (memberSet (read limit ws) (hyperedgeAt limit ws a)) (memberSet (read limit ws) (hyperedgeAt limit ws b)) (omega (arith, w .counts a ha, w .counts b hb))
