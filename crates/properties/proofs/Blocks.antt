@@ -1,15 +1,15 @@
 -- Laws of blocks of words laid one after the other: how many words they have, and a few words written. Assumes nothing.
 use mathlib.Core.Path.{_≡_, refl, sym, ap, _∙_}
-use mathlib.Core.List.{List, [], _∷_, _++_}
+use mathlib.Core.List.{List, [], _∷_}
 use Prim.Native.Nat.{ℕ, zero, suc, _+_, _*_, _≤_, _<_}
 use native.Mathlib.Nat.{le-antisymm, suc-mul}
 use native.Mathlib.Numerals.{add-one}
 use native.Mathlib.Omega.{arith}
-use lib.ListN.{length, set, length-append, length-set}
+use lib.ListN.{length, set, length-append}
 use Rattle.lists.specs.Lists.{over, flat, tab}
 use Rattle.lists.proofs.Tab.{tab-suc}
 use Rattle.lists.proofs.Flat.{flat-snoc}
-use Rattle.lists.proofs.Chosen.{over-none, over-more, over-length}
+use Rattle.lists.proofs.Chosen.{over-none, over-more}
 use Rattle.lookups.proofs.Laid.{Laid, laid-end}
 use Rattle.properties.specs.State.{Wrote}
 

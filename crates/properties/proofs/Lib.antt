@@ -6,3 +6,5 @@ pub mod SetRows
 pub mod Blocks
 pub mod Pairs
 pub mod Rows
+pub mod Sheet
+pub mod Ties

@@ -1,29 +1,24 @@
 -- Laws of the marks of all lists, and of the vertices that are left unmarked. Assumes nothing.
 use mathlib.Core.Path.{_≡_, refl, sym, ap, ap₂, _∙_}
 use mathlib.Core.Bool.{Bool, true, false, not, _||_}
-use mathlib.Core.List.{List, [], _∷_, _++_, map}
+use mathlib.Core.List.{List, [], _∷_}
 use Prim.Native.Nat.{ℕ, suc, _+_, _-_, _≤_, _<_}
-use native.Mathlib.Nat.{lt-irrefl, le-of-eq}
+use native.Mathlib.Nat.{lt-irrefl}
 use native.Mathlib.Omega.{arith}
 use lib.Dec.{eqb}
 use lib.ListN.{length, getD, take, drop, set, length-set, length-drop, getD-replicate}
 use lib.Seq.{getD-set-same, getD-set-other, take-all}
-use borrow.Author.Tests.{eq-eqb, ne-eqb}
-use Rattle.lists.specs.Tests.{count, chosen}
+use borrow.Author.Tests.{ne-eqb}
 use Rattle.lists.specs.Lists.{any, memb, filter, over}
 use Rattle.lists.proofs.Cases.{on-same}
-use Rattle.lists.proofs.Parts.{part-tail, back-tail}
-use Rattle.lists.proofs.Chosen.{over-none, over-more, over-part}
-use Rattle.layout.specs.declared.Answer.the-variants.{Done, NoRoom}
-use Rattle.layout.specs.Content.{Hyperedge, Table, liveVertices, lists}
-use Rattle.layout.specs.Layout.{limit, vertexLimit, vertexCount, hyperedgeAt, membersAt, read}
+use Rattle.layout.specs.Content.{Table, liveVertices, lists}
+use Rattle.layout.specs.Layout.{vertexLimit, hyperedgeAt, membersAt, read}
 use Rattle.layout.specs.WellFormed.{Formed}
-use Rattle.layout.specs.Answers.{Result, result, listed}
+use Rattle.layout.specs.Answers.{Result, listed}
 use Rattle.layout.specs.Steps.{stepsOf}
-use Rattle.layout.proofs.Answers.{listed-over, listed-fits}
 use Rattle.layout.proofs.Read.{live-length}
-use Rattle.marks.specs.Marks.{isMarked, numberAt, marked}
-use Rattle.marks.proofs.Marked.{picked-length, marked-filter}
+use Rattle.marks.specs.Marks.{isMarked, marked}
+use Rattle.marks.proofs.Marked.{marked-filter}
 use Rattle.lookups.specs.Lookups.{hasEnd, someOf, with, noMarks, MarkedBy}
 use Rattle.lookups.proofs.Marking.{marked-as, no-marks-length}
 use Rattle.properties.specs.Properties.{isOrphan, orphanVertices, stepsAt, isEndpoint, sources, sinks, twice, endpoints}

@@ -16,7 +16,7 @@ use Rattle.lists.proofs.Every.{every-on, every-no, every-end, all-tab}
 use Rattle.lists.proofs.Chosen.{over-none}
 use Rattle.lists.proofs.Stride.{stride}
 use Rattle.layout.specs.declared.Answer.the-variants.{Done}
-use Rattle.layout.specs.Content.{Hyperedge, hyperedgeNumber}
+use Rattle.layout.specs.Content.{hyperedgeNumber}
 use Rattle.layout.specs.Layout.{limit, hyperedgeLimit, recordSize, hyperedgesAt, hyperedgeWord, hyperedgeCount, countAt, hyperedgeAt, membersAt, readHyperedges, read}
 use Rattle.layout.specs.WellFormed.{wellFormed, Formed}
 use Rattle.layout.specs.Answers.{result, onFormed}

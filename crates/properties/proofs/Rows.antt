@@ -7,7 +7,7 @@ use native.Mathlib.Nat.{lt-irrefl, le-antisymm}
 use native.Mathlib.Numerals.{add-one}
 use native.Mathlib.Omega.{arith}
 use lib.Dec.{eqb}
-use lib.ListN.{length, getD, drop, set, length-set, length-append, length-replicate, getD-replicate, drop-of-length-le, replicate}
+use lib.ListN.{length, getD, drop, set, length-set, length-append, getD-replicate, drop-of-length-le, replicate}
 use lib.Seq.{getD-set-same, getD-set-other}
 use borrow.Author.Tests.{eq-eqb, ne-eqb}
 use Rattle.lists.specs.Tests.{_and_, bit, count, chosen}

@@ -1,6 +1,6 @@
 -- Laws of the matrix of member sets and of its sizes. Assumes nothing.
-use mathlib.Core.Path.{_≡_, refl, sym, ap, ap₂, _∙_, subst}
-use mathlib.Core.Bool.{Bool, true, false, not, cond, _||_}
+use mathlib.Core.Path.{_≡_, refl, sym, ap, _∙_, subst}
+use mathlib.Core.Bool.{Bool, true, false, not, cond}
 use mathlib.Core.List.{List}
 use Prim.Native.Nat.{ℕ, _+_, _*_, _≤_, _<_}
 use native.Mathlib.Nat.{lt-irrefl, le-antisymm}
@@ -14,14 +14,14 @@ use Rattle.lists.proofs.Cases.{on-same}
 use Rattle.lists.proofs.Tab.{length-tab}
 use Rattle.lists.proofs.Count.{count-ext}
 use Rattle.lists.proofs.Every.{every-on, every-no, every-end}
-use Rattle.layout.specs.Content.{liveVertices, lists}
+use Rattle.layout.specs.Content.{liveVertices}
 use Rattle.layout.specs.Layout.{limit, vertexLimit, vertexCount, hyperedgeCount, vertexAt, hyperedgeAt, membersAt, readVertices, read}
 use Rattle.layout.specs.WellFormed.{Formed}
 use Rattle.layout.proofs.Read.{live-length}
 use Rattle.marks.specs.Marks.{isMarked}
 use Rattle.steps.specs.Matrices.{cell}
 use Rattle.lookups.specs.Lookups.{someOf, noMarks, MarkedBy}
-use Rattle.properties.specs.Properties.{memberSet, size, under, within, strictlyWithin, isWithin}
+use Rattle.properties.specs.Properties.{memberSet, size, under, within, isWithin}
 use Rattle.properties.specs.State.{rowOf, SetOf, RowPut, Sets}
 use Rattle.properties.proofs.Marking.{any-memb, marks-are}
 use Rattle.properties.proofs.Subsets.{strict-no, strict-if, within-ext}

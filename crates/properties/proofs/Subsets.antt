@@ -2,12 +2,12 @@
 use mathlib.Core.Path.{_≡_, refl, sym, ap, ap₂, _∙_}
 use mathlib.Core.Bool.{Bool, true, false, not, cond, _||_}
 use mathlib.Core.Logic.{⊎-elim}
-use Prim.Native.Nat.{ℕ, _+_, _≤_, _<_}
+use Prim.Native.Nat.{ℕ, _≤_, _<_}
 use native.Mathlib.Nat.{lt-irrefl}
 use native.Mathlib.Omega.{arith}
 use lib.Dec.{eqb}
 use borrow.Author.Tests.{eq-eqb, ne-eqb}
-use Rattle.lists.specs.Tests.{_and_, every, count}
+use Rattle.lists.specs.Tests.{_and_, count}
 use Rattle.lists.proofs.Cases.{on, on-same, clash, and-true, and-false-left, and-false-right}
 use Rattle.lists.proofs.Every.{every-at, every-of, every-ext}
 use Rattle.lists.proofs.Count.{find, count-flip, count-mono}
@@ -17,6 +17,10 @@ module _ (n : ℕ) (p q : ℕ → Bool) where
   pub within-at : within n p q ≡ true → (i : ℕ) → i < n → p i ≡ true → q i ≡ true
   unfolding within under
   within-at e i h pi = rw pi at (every-at (under p q) n i e h)
+
+  pub within-of : ((i : ℕ) → i < n → p i ≡ true → q i ≡ true) → within n p q ≡ true
+  unfolding within under
+  within-of h = every-of (under p q) n (λ i l. on (p i) (λ e. rw e (h i l e)) (λ e. rw e))
 
   -- as many marks at least
   within-count : within n p q ≡ true → count p n ≤ count q n

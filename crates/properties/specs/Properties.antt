@@ -11,6 +11,32 @@ use Rattle.layout.specs.Steps.{stepsOf}
 use Rattle.steps.specs.Matrices.{numberOf}
 use Rattle.lookups.specs.Lookups.{hasEnd}
 
+-- ---- sets of vertices: a mark for each vertex record
+
+-- the distinct set of a hyperedge's members: record i is marked where its vertex is a member
+unfoldable pub memberSet : Table → Hyperedge → ℕ → Bool
+memberSet t e i = lists (numberOf t i) e
+
+-- how many vertices are members, repeats not counted
+unfoldable pub size : Table → Hyperedge → ℕ
+size t e = count (memberSet t e) (length (t .vertices))
+
+-- the hyperedge has s distinct members
+unfoldable pub hasSize : Table → ℕ → Hyperedge → Bool
+hasSize t s e = eqb (size t e) s
+
+-- where the one is marked, so is the other
+unfoldable pub under : (ℕ → Bool) → (ℕ → Bool) → ℕ → Bool
+under p q i = cond (p i) (q i) true
+
+-- of n records, each that is marked in p is marked in q
+unfoldable pub within : ℕ → (ℕ → Bool) → (ℕ → Bool) → Bool
+within n p q = every (under p q) n
+
+-- and not the other way round: the sets differ
+unfoldable pub strictlyWithin : ℕ → (ℕ → Bool) → (ℕ → Bool) → Bool
+strictlyWithin n p q = within n p q and not (within n q p)
+
 -- ---- orphans
 
 -- no hyperedge lists the vertex
@@ -28,6 +54,8 @@ hasMembers k e = eqb (length (e .members)) k
 -- the hyperedges without members, ascending
 unfoldable pub orphanHyperedges : Table → List ℕ
 orphanHyperedges t = map hyperedgeNumber (filter (hasMembers 0) (t .hyperedges))
+
+-- ---- uniform size
 
 -- every hyperedge has k members; so it is with no hyperedges
 unfoldable pub uniform : ℕ → Table → Bool
@@ -63,28 +91,6 @@ twice xs ys = counted xs ++ counted ys
 unfoldable pub endpoints : Table → List ℕ
 endpoints t = twice (sources t) (sinks t)
 
--- ---- sets of vertices: a mark for each vertex record
-
--- the distinct set of a hyperedge's members: record i is marked where its vertex is a member
-unfoldable pub memberSet : Table → Hyperedge → ℕ → Bool
-memberSet t e i = lists (numberOf t i) e
-
--- how many vertices are members, repeats not counted
-unfoldable pub size : Table → Hyperedge → ℕ
-size t e = count (memberSet t e) (length (t .vertices))
-
--- where the one is marked, so is the other
-unfoldable pub under : (ℕ → Bool) → (ℕ → Bool) → ℕ → Bool
-under p q i = cond (p i) (q i) true
-
--- of n records, each that is marked in p is marked in q
-unfoldable pub within : ℕ → (ℕ → Bool) → (ℕ → Bool) → Bool
-within n p q = every (under p q) n
-
--- and not the other way round: the sets differ
-unfoldable pub strictlyWithin : ℕ → (ℕ → Bool) → (ℕ → Bool) → Bool
-strictlyWithin n p q = within n p q and not (within n q p)
-
 -- ---- inclusions
 
 -- the distinct set of a's members is strictly within b's
@@ -104,9 +110,6 @@ unfoldable pub inclusions : Table → List ℕ
 inclusions t = flat (pairsOf t) (t .hyperedges)
 
 -- ---- nestedness
-
-unfoldable pub hasSize : Table → ℕ → Hyperedge → Bool
-hasSize t s e = eqb (size t e) s
 
 -- the hyperedge is the first member of some pair
 unfoldable pub isIncluded : Table → Hyperedge → Bool
