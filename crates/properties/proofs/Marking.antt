@@ -22,7 +22,7 @@ use Rattle.marks.proofs.Marked.{marked-filter}
 use Rattle.lookups.specs.Lookups.{hasEnd, someOf, with, noMarks, MarkedBy}
 use Rattle.lookups.proofs.Marking.{marked-as, no-marks-length}
 use Rattle.properties.specs.Properties.{isOrphan, orphanVertices, stepsAt, isEndpoint, sources, sinks, twice, endpoints}
-use Rattle.properties.specs.State.{cut, inCut}
+use Rattle.properties.specs.State.{trimmed, inTrimmed}
 
 any-ext : {A : Type 0} (f g : A → Bool) (xs : List A) → ((x : A) → f x ≡ g x) → any f xs ≡ any g xs
 unfolding any
@@ -36,53 +36,53 @@ any-memb y (x ∷ xs) = ap (λ (b : Bool). eqb y x || b) (any-memb y xs)
 
 -- ---- a record: ms is what `members_formed` returned
 
-pub cut-marked : (L : ℕ) (ws ms : List ℕ) (j front back : ℕ) (live : List ℕ) (old new : List Bool) → ms ≡ membersAt L ws j
-    → MarkedBy live (someOf eqb (take (length ms - back - front) (drop front ms))) old new → MarkedBy live (with (inCut front back) (hyperedgeAt L ws j)) old new
-unfolding someOf inCut
-cut-marked L ws ms j front back live old new e b =
-    marked-as (λ y. any-memb y (cut front back ms) ∙ ap (λ (l : List ℕ). memb y (cut front back l)) e) b
+pub trimmed-marked : (L : ℕ) (ws ms : List ℕ) (j front back : ℕ) (live : List ℕ) (old new : List Bool) → ms ≡ membersAt L ws j
+    → MarkedBy live (someOf eqb (take (length ms - back - front) (drop front ms))) old new → MarkedBy live (with (inTrimmed front back) (hyperedgeAt L ws j)) old new
+unfolding someOf inTrimmed
+trimmed-marked L ws ms j front back live old new e b =
+    marked-as (λ y. any-memb y (trimmed front back ms) ∙ ap (λ (l : List ℕ). memb y (trimmed front back l)) e) b
 
 -- ---- which vertices are in what is left of some list
 
-cut-whole : (ms : List ℕ) → cut 0 0 ms ≡ ms
-cut-whole ms = take-all (length ms - 0 - 0) ms (omega arith)
+trimmed-whole : (ms : List ℕ) → trimmed 0 0 ms ≡ ms
+trimmed-whole ms = take-all (length ms - 0 - 0) ms (omega arith)
 
 eqb-comm : (a b : ℕ) → eqb a b ≡ eqb b a
 eqb-comm a b = on-same a b (λ e. rw e) (λ ne. ne-eqb a b ne ∙ sym (ne-eqb b a (λ q. ne (sym q))))
 
 -- the members after the first are stepped to
-cut-later : (v : ℕ) (ms : List ℕ) → memb v (drop 1 ms) ≡ any (hasEnd true v) (stepsOf ms)
+trimmed-later : (v : ℕ) (ms : List ℕ) → memb v (drop 1 ms) ≡ any (hasEnd true v) (stepsOf ms)
 unfolding any stepsOf hasEnd
-cut-later v [] = refl
-cut-later v (x ∷ []) = refl
-cut-later v (x ∷ y ∷ ms) = ap₂ _||_ (eqb-comm v y) (cut-later v (y ∷ ms))
+trimmed-later v [] = refl
+trimmed-later v (x ∷ []) = refl
+trimmed-later v (x ∷ y ∷ ms) = ap₂ _||_ (eqb-comm v y) (trimmed-later v (y ∷ ms))
 
 -- the members before the last are stepped from
-cut-earlier : (v : ℕ) (ms : List ℕ) → memb v (take (length ms - 1) ms) ≡ any (hasEnd false v) (stepsOf ms)
+trimmed-earlier : (v : ℕ) (ms : List ℕ) → memb v (take (length ms - 1) ms) ≡ any (hasEnd false v) (stepsOf ms)
 unfolding any stepsOf hasEnd
-cut-earlier v [] = refl
-cut-earlier v (x ∷ []) = refl
-cut-earlier v (x ∷ y ∷ ms) =
+trimmed-earlier v [] = refl
+trimmed-earlier v (x ∷ []) = refl
+trimmed-earlier v (x ∷ y ∷ ms) =
     let a : length (x ∷ y ∷ ms) - 1 ≡ suc (length ms) = omega arith in
     let b : length (y ∷ ms) - 1 ≡ length ms = omega arith in
     ap (λ (k : ℕ). memb v (take k (x ∷ y ∷ ms))) a
-    ∙ ap₂ _||_ (eqb-comm v x) (ap (λ (k : ℕ). memb v (take k (y ∷ ms))) (sym b) ∙ cut-earlier v (y ∷ ms))
+    ∙ ap₂ _||_ (eqb-comm v x) (ap (λ (k : ℕ). memb v (take k (y ∷ ms))) (sym b) ∙ trimmed-earlier v (y ∷ ms))
 
 module _ (t : Table) (v : ℕ) where
-  listed-some : any (inCut 0 0 v) (t .hyperedges) ≡ any (lists v) (t .hyperedges)
-  unfolding inCut
-  listed-some = any-ext (inCut 0 0 v) (lists v) (t .hyperedges) (λ e. ap (memb v) (cut-whole (e .members)))
+  listed-some : any (inTrimmed 0 0 v) (t .hyperedges) ≡ any (lists v) (t .hyperedges)
+  unfolding inTrimmed
+  listed-some = any-ext (inTrimmed 0 0 v) (lists v) (t .hyperedges) (λ e. ap (memb v) (trimmed-whole (e .members)))
 
-  stepped-to : any (inCut 1 0 v) (t .hyperedges) ≡ any (stepsAt true v) (t .hyperedges)
-  unfolding inCut stepsAt
-  stepped-to = any-ext (inCut 1 0 v) (stepsAt true v) (t .hyperedges) (λ e.
-      ap (memb v) (take-all (length (e .members) - 0 - 1) (drop 1 (e .members)) (rw length-drop (omega arith))) ∙ cut-later v (e .members))
+  stepped-to : any (inTrimmed 1 0 v) (t .hyperedges) ≡ any (stepsAt true v) (t .hyperedges)
+  unfolding inTrimmed stepsAt
+  stepped-to = any-ext (inTrimmed 1 0 v) (stepsAt true v) (t .hyperedges) (λ e.
+      ap (memb v) (take-all (length (e .members) - 0 - 1) (drop 1 (e .members)) (rw length-drop (omega arith))) ∙ trimmed-later v (e .members))
 
-  stepped-from : any (inCut 0 1 v) (t .hyperedges) ≡ any (stepsAt false v) (t .hyperedges)
-  unfolding inCut stepsAt
-  stepped-from = any-ext (inCut 0 1 v) (stepsAt false v) (t .hyperedges) (λ e.
+  stepped-from : any (inTrimmed 0 1 v) (t .hyperedges) ≡ any (stepsAt false v) (t .hyperedges)
+  unfolding inTrimmed stepsAt
+  stepped-from = any-ext (inTrimmed 0 1 v) (stepsAt false v) (t .hyperedges) (λ e.
       let q : length (e .members) - 1 - 0 ≡ length (e .members) - 1 = omega arith in
-      ap (λ (k : ℕ). memb v (take k (e .members))) q ∙ cut-earlier v (e .members))
+      ap (λ (k : ℕ). memb v (take k (e .members))) q ∙ trimmed-earlier v (e .members))
 
 -- ---- the loop over k that turns the marks
 
@@ -119,29 +119,29 @@ module _ (L : ℕ) (ws : List ℕ) (f : Formed L ws) (old rest : List Bool) (w :
       w k (omega (arith, live-length L ws, f .shape .vertices-le))
       ∙ ap not (marks-are (liveVertices (read L ws)) p old b k (omega (arith, live-length L ws, f .shape .vertices-le)) l) ∙ h _)
 
-  pub orphans-are : MarkedBy (liveVertices (read L ws)) (someOf (inCut 0 0) (read L ws .hyperedges)) noMarks old
+  pub orphans-are : MarkedBy (liveVertices (read L ws)) (someOf (inTrimmed 0 0) (read L ws .hyperedges)) noMarks old
       → marked rest (liveVertices (read L ws)) ≡ orphanVertices (read L ws)
   unfolding someOf orphanVertices isOrphan
   orphans-are b = rest-filter _ _ b (λ v. ap not (listed-some (read L ws) v))
 
-  pub orphans-listed : (out : List ℕ) (x : Result) → MarkedBy (liveVertices (read L ws)) (someOf (inCut 0 0) (read L ws .hyperedges)) noMarks old
+  pub orphans-listed : (out : List ℕ) (x : Result) → MarkedBy (liveVertices (read L ws)) (someOf (inTrimmed 0 0) (read L ws .hyperedges)) noMarks old
       → x ≡ listed (marked rest (liveVertices (read L ws))) out → x ≡ listed (orphanVertices (read L ws)) out
   orphans-listed out x b e = e ∙ ap (λ (xs : List ℕ). listed xs out) (orphans-are b)
 
-  pub sources-are : MarkedBy (liveVertices (read L ws)) (someOf (inCut 1 0) (read L ws .hyperedges)) noMarks old
+  pub sources-are : MarkedBy (liveVertices (read L ws)) (someOf (inTrimmed 1 0) (read L ws .hyperedges)) noMarks old
       → marked rest (liveVertices (read L ws)) ≡ sources (read L ws)
   unfolding someOf sources isEndpoint
   sources-are b = rest-filter _ _ b (λ v. ap not (stepped-to (read L ws) v))
 
-  pub sinks-are : MarkedBy (liveVertices (read L ws)) (someOf (inCut 0 1) (read L ws .hyperedges)) noMarks old
+  pub sinks-are : MarkedBy (liveVertices (read L ws)) (someOf (inTrimmed 0 1) (read L ws .hyperedges)) noMarks old
       → marked rest (liveVertices (read L ws)) ≡ sinks (read L ws)
   unfolding someOf sinks isEndpoint
   sinks-are b = rest-filter _ _ b (λ v. ap not (stepped-from (read L ws) v))
 
 -- the two marks that `others` made, of those stepped to and of those stepped from
 pub endpoints-listed : (L : ℕ) (ws : List ℕ) → Formed L ws → (to from a b : List Bool) (out : List ℕ) (x : Result)
-    → MarkedBy (liveVertices (read L ws)) (someOf (inCut 1 0) (read L ws .hyperedges)) noMarks to
-    → MarkedBy (liveVertices (read L ws)) (someOf (inCut 0 1) (read L ws .hyperedges)) noMarks from
+    → MarkedBy (liveVertices (read L ws)) (someOf (inTrimmed 1 0) (read L ws .hyperedges)) noMarks to
+    → MarkedBy (liveVertices (read L ws)) (someOf (inTrimmed 0 1) (read L ws .hyperedges)) noMarks from
     → ((k : ℕ) → k < vertexLimit → isMarked a k ≡ not (isMarked to k)) → ((k : ℕ) → k < vertexLimit → isMarked b k ≡ not (isMarked from k))
     → x ≡ listed (twice (marked a (liveVertices (read L ws))) (marked b (liveVertices (read L ws)))) out → x ≡ listed (endpoints (read L ws)) out
 unfolding endpoints

@@ -37,16 +37,11 @@ set-marked ws f j ms marks e b i h =
 
 -- ---- the loop over i that puts a row
 
-pub record Putting (marks : List Bool) (j : ℕ) (old : List Bool) (k : ℕ) (new : List Bool) : Type 0 where
-  pub sized : length new ≡ length old
-  pub here : (i : ℕ) → i < k → isMarked new (cell j i) ≡ isMarked marks i
-  pub rest : (r i : ℕ) → i < vertexLimit → (r ≡ j → ⊥) → isMarked new (cell r i) ≡ isMarked old (cell r i)
-
-pub putting-none : (marks : List Bool) (j : ℕ) (old : List Bool) → Putting marks j old 0 old
+pub putting-none : (marks : List Bool) (j : ℕ) (old : List Bool) → RowPut marks j old 0 old
 putting-none marks j old = record { sized = refl; here = λ i h. absurd (lt-irrefl 0 (omega arith)); rest = λ r i h ne. refl }
 
-module _ {marks : List Bool} {j : ℕ} {old : List Bool} {k : ℕ} {new : List Bool} (w : Putting marks j old k new) where
-  pub putting-more : j < vertexLimit → length old ≡ vertexLimit * vertexLimit → k < vertexLimit → Putting marks j old (k + 1) (set new (cell j k) (isMarked marks k))
+module _ {marks : List Bool} {j : ℕ} {old : List Bool} {k : ℕ} {new : List Bool} (w : RowPut marks j old k new) where
+  pub putting-more : j < vertexLimit → length old ≡ vertexLimit * vertexLimit → k < vertexLimit → RowPut marks j old (k + 1) (set new (cell j k) (isMarked marks k))
   putting-more hj n h = record {
     sized = length-set new (cell j k) (isMarked marks k) ∙ w .sized;
     here = λ i l. on-same i k
@@ -55,7 +50,7 @@ module _ {marks : List Bool} {j : ℕ} {old : List Bool} {k : ℕ} {new : List B
     rest = λ r i l ne. getD-set-other new (cell j k) (cell r i) (isMarked marks k) false (λ q. ne (omega arith)) ∙ w .rest r i l ne;
   }
 
-  pub putting-end : vertexLimit ≤ k → RowPut marks j old new
+  pub putting-end : vertexLimit ≤ k → RowPut marks j old vertexLimit new
   putting-end h = record { sized = w .sized; here = λ i l. w .here i (omega arith); rest = w .rest }
 
 -- ---- the loop over j along the records
@@ -73,7 +68,7 @@ sets-none ws m sizes a b = record {
 
 module _ {ws : List ℕ} {j : ℕ} {m : List Bool} {sizes : List ℕ} (w : Sets ws j m sizes) where
   -- marks is what `member_marks` returned, next what `put_row` left, c what `count_marked` found
-  pub sets-more : (marks next : List Bool) (n c : ℕ) → Formed limit ws → n ≡ vertexCount ws → j < hyperedgeCount ws → SetOf ws j (isMarked marks) → RowPut marks j m next
+  pub sets-more : (marks next : List Bool) (n c : ℕ) → Formed limit ws → n ≡ vertexCount ws → j < hyperedgeCount ws → SetOf ws j (isMarked marks) → RowPut marks j m vertexLimit next
       → c ≡ count (isMarked marks) n → Sets ws (j + 1) next (set sizes j c)
   unfolding size
   sets-more marks next n c f e h s r q =

@@ -14,12 +14,12 @@ use Rattle.steps.specs.Matrices.{cell}
 use Rattle.properties.specs.Properties.{memberSet, size, isIncluded, isSize, row}
 
 -- a list without its first and its last members, so many of each
-abbrev pub cut : ℕ → ℕ → List ℕ → List ℕ
-cut front back ms = take (length ms - back - front) (drop front ms)
+abbrev pub trimmed : ℕ → ℕ → List ℕ → List ℕ
+trimmed front back ms = take (length ms - back - front) (drop front ms)
 
 -- what is left of the list has v
-unfoldable pub inCut : ℕ → ℕ → ℕ → Hyperedge → Bool
-inCut front back v e = memb v (cut front back (e .members))
+unfoldable pub inTrimmed : ℕ → ℕ → ℕ → Hyperedge → Bool
+inTrimmed front back v e = memb v (trimmed front back (e .members))
 
 -- xs is written from the front of what was lent, and k is how many words that is
 pub record Wrote (xs lent : List ℕ) (k : ℕ) (exit : List ℕ) : Type 0 where
@@ -36,10 +36,10 @@ rowOf m a i = isMarked m (cell a i)
 abbrev pub SetOf : List ℕ → ℕ → (ℕ → Bool) → Type 0
 SetOf ws j p = (i : ℕ) → i < vertexCount ws → p i ≡ memberSet (read limit ws) (hyperedgeAt limit ws j) i
 
--- row j has the marks, and the other rows are as they were
-pub record RowPut (marks : List Bool) (j : ℕ) (old new : List Bool) : Type 0 where
+-- the first k places of row j have the marks, and the other rows are as they were
+pub record RowPut (marks : List Bool) (j : ℕ) (old : List Bool) (k : ℕ) (new : List Bool) : Type 0 where
   pub sized : length new ≡ length old
-  pub here : (i : ℕ) → i < vertexLimit → isMarked new (cell j i) ≡ isMarked marks i
+  pub here : (i : ℕ) → i < k → isMarked new (cell j i) ≡ isMarked marks i
   pub rest : (r i : ℕ) → i < vertexLimit → (r ≡ j → ⊥) → isMarked new (cell r i) ≡ isMarked old (cell r i)
 
 -- the rows of the first k hyperedge records have the marks of their members, and sizes their counts

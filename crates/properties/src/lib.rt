@@ -14,7 +14,7 @@ ghost use Rattle.marks.specs.Marks.{isMarked, marked};
 ghost use Rattle.lookups.specs.Lookups.{someOf, with, noMarks, MarkedBy};
 ghost use Rattle.properties.specs.Properties.{counted, twice, uniform};
 ghost use Rattle.properties.specs.Results.{orphanVerticesResult, orphanHyperedgesResult, endpointsResult, uniformResult, inclusionsResult, nestednessResult};
-ghost use Rattle.properties.specs.State.{inCut, Wrote};
+ghost use Rattle.properties.specs.State.{inTrimmed, Wrote};
 
 mod inclusions;
 mod nestedness;
@@ -39,7 +39,7 @@ fn mark_members(t: &[u32], ms: &[u32], marks: &mut [bool; 256])
 fn mark_record(t: &[u32], j: usize, front: usize, back: usize, marks: &mut [bool; 256])
     requires { ⌜ Formed limit (now t) ⌝ }
     requires { ⌜ (j < hyperedgeCount (now t)) × ((front + back ≤ 1) × (length (now marks) ≡ vertexLimit)) ⌝ }
-    ensures { λ _. ⌜ MarkedBy (liveVertices (read limit (now (t .entry)))) (with (inCut front back) (hyperedgeAt limit (now (t .entry)) j)) (now (marks .entry)) (now (marks .exit)) ⌝ }
+    ensures { λ _. ⌜ MarkedBy (liveVertices (read limit (now (t .entry)))) (with (inTrimmed front back) (hyperedgeAt limit (now (t .entry)) j)) (now (marks .entry)) (now (marks .exit)) ⌝ }
 {
     let ms = layout::members_formed(t, j);
     let e = ms.len() - back;
@@ -50,7 +50,7 @@ fn mark_record(t: &[u32], j: usize, front: usize, back: usize, marks: &mut [bool
 fn listed_marks(t: &[u32], front: usize, back: usize) -> [bool; 256]
     requires { ⌜ Formed limit (now t) ⌝ }
     requires { ⌜ front + back ≤ 1 ⌝ }
-    ensures { λ r. ⌜ MarkedBy (liveVertices (read limit (now (t .entry)))) (someOf (inCut front back) (read limit (now (t .entry)) .hyperedges)) noMarks r ⌝ }
+    ensures { λ r. ⌜ MarkedBy (liveVertices (read limit (now (t .entry)))) (someOf (inTrimmed front back) (read limit (now (t .entry)) .hyperedges)) noMarks r ⌝ }
 {
     let m = layout::hyperedge_count(t);
     let mut marks = [false; 256];

@@ -23,7 +23,7 @@ fn member_marks(t: &[u32], j: usize) -> [bool; 256]
 // Puts the marks into row j.
 fn put_row(marks: &[bool; 256], j: usize, m: &mut [bool; 65536])
     requires { ⌜ (j < vertexLimit) × (length (now m) ≡ vertexLimit * vertexLimit) ⌝ }
-    ensures { λ _. ⌜ RowPut (now (marks .entry)) j (now (m .entry)) (now (m .exit)) ⌝ }
+    ensures { λ _. ⌜ RowPut (now (marks .entry)) j (now (m .entry)) vertexLimit (now (m .exit)) ⌝ }
 {
     let mut i = 0;
     while i < layout::VERTEX_LIMIT {

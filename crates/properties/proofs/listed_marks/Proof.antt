@@ -9,13 +9,13 @@ use Rattle.layout.specs.Layout.{limit, read, readHyperedges}
 use Rattle.lookups.specs.Lookups.{noMarks}
 use Rattle.lookups.proofs.Places.{records-more, records-none}
 use Rattle.lookups.proofs.Marking.{Marking, marking-none, marking-more, marking-end, no-marks-length}
-use Rattle.properties.specs.State.{inCut}
+use Rattle.properties.specs.State.{inTrimmed}
 use borrow.Author.Needs.{needs}
 use Rattle.properties.proofs.listed_marks.Statement.{statement}
 use Rattle.properties.proofs.listed_marks.Tie as tie
 
 abbrev Inv-loop : tie.InvT-loop
-Inv-loop t front back m marks₀ j₀ marks j = (j ≤ m) × Marking (liveVertices (read limit t)) (inCut front back) (readHyperedges limit t) (drop j (readHyperedges limit t)) noMarks marks
+Inv-loop t front back m marks₀ j₀ marks j = (j ≤ m) × Marking (liveVertices (read limit t)) (inTrimmed front back) (readHyperedges limit t) (drop j (readHyperedges limit t)) noMarks marks
 
 abbrev μ-loop : tie.MeasureT-loop
 μ-loop t front back m marks₀ j₀ marks j = m - j

@@ -5,7 +5,7 @@ use denote.Ref.{now}
 use lib.ListN.{length}
 use Rattle.layout.specs.Layout.{limit}
 use Rattle.steps.proofs.Members.{members-some}
-use Rattle.properties.proofs.Marking.{cut-marked}
+use Rattle.properties.proofs.Marking.{trimmed-marked}
 use borrow.Author.Needs.{needs}
 use Rattle.properties.proofs.mark_record.Statement.{statement}
 use Rattle.properties.proofs.mark_record.Tie as tie
@@ -36,7 +36,7 @@ mark-members-requires : tie.Need-mark-members-requires
 mark-members-requires c κs = search needs
 
 returns : tie.Need-returns
-returns c = search cut-marked
+returns c = search trimmed-marked
 
 pub mark-record-spec : {M : Type 1} → statement M
 mark-record-spec =

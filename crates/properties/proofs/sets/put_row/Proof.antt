@@ -2,13 +2,14 @@
 use Prim.Native.Nat.{_≤_, _-_}
 use native.Mathlib.Omega.{arith}
 use Rattle.layout.specs.Layout.{vertexLimit}
-use Rattle.properties.proofs.SetRows.{Putting, putting-none, putting-more, putting-end}
+use Rattle.properties.specs.State.{RowPut}
+use Rattle.properties.proofs.SetRows.{putting-none, putting-more, putting-end}
 use borrow.Author.Needs.{needs}
 use Rattle.properties.proofs.sets.put_row.Statement.{statement}
 use Rattle.properties.proofs.sets.put_row.Tie as tie
 
 abbrev Inv-loop : tie.InvT-loop
-Inv-loop marks j m₀ i₀ m i = (i ≤ vertexLimit) × Putting marks j m₀ i m
+Inv-loop marks j m₀ i₀ m i = (i ≤ vertexLimit) × RowPut marks j m₀ i m
 
 abbrev μ-loop : tie.MeasureT-loop
 μ-loop marks j m₀ i₀ m i = vertexLimit - i
