@@ -4,16 +4,18 @@ use mathlib.Core.Bool.{Bool, true, false, not, cond}
 use mathlib.Core.List.{List}
 use Prim.Native.Nat.{ℕ, _+_, _*_, _≤_, _<_}
 use native.Mathlib.Nat.{lt-irrefl, le-antisymm}
+use native.Mathlib.Numerals.{add-one}
 use native.Mathlib.Omega.{arith}
 use lib.Dec.{eqb}
 use lib.ListN.{length, getD, set, length-set}
 use lib.Seq.{getD-set-same, getD-set-other}
-use Rattle.lists.specs.Tests.{every, count}
+use borrow.Author.Tests.{not-true, not-false}
+use Rattle.lists.specs.Tests.{_and_, every, count}
 use Rattle.lists.specs.Lists.{any, memb}
-use Rattle.lists.proofs.Cases.{on-same}
+use Rattle.lists.proofs.Cases.{on, on-same, clash, and-true, and-false-right}
 use Rattle.lists.proofs.Tab.{length-tab}
 use Rattle.lists.proofs.Count.{count-ext}
-use Rattle.lists.proofs.Every.{every-on, every-no, every-end}
+use Rattle.lists.proofs.Every.{every-at, every-of, every-end}
 use Rattle.layout.specs.Content.{liveVertices}
 use Rattle.layout.specs.Layout.{limit, vertexLimit, vertexCount, hyperedgeCount, vertexAt, hyperedgeAt, membersAt, readVertices, read}
 use Rattle.layout.specs.WellFormed.{Formed}
@@ -92,21 +94,44 @@ module _ {ws : List ℕ} {j : ℕ} {m : List Bool} {sizes : List ℕ} (w : Sets 
   pub sets-end : (k : ℕ) → k ≡ hyperedgeCount ws → j ≤ k → k ≤ j → Sets ws (hyperedgeCount ws) m sizes
   sets-end k e a b = subst (λ (i : ℕ). Sets ws i m sizes) (le-antisymm a b ∙ e) w
 
--- ---- one set within another: r is what `under` found of the two marks at i
+-- ---- one set within another
 
-module _ (m : List Bool) (n a b i : ℕ) where
-  module _ (r : Bool) (e : r ≡ cond (isMarked m (cell a i)) (isMarked m (cell b i)) true) where
-    pub within-on : every (under (rowOf m a) (rowOf m b)) i ≡ true → not r ≡ false → every (under (rowOf m a) (rowOf m b)) (i + 1) ≡ true
-    unfolding under
-    within-on inv h = every-on (under (rowOf m a) (rowOf m b)) n i r e inv h
+-- the code tested `!p` and then `!q`
+module _ (ok p q : Bool) where
+  pub still-bare : not p ≡ true → ok ≡ (ok and cond p q true)
+  still-bare h = rw (not-true p h) (sym (and-true ok))
 
-    pub within-no : i < n → not r ≡ true → false ≡ within n (rowOf m a) (rowOf m b)
-    unfolding within under
-    within-no l h = every-no (under (rowOf m a) (rowOf m b)) n i r e l h
+  pub still-no : not p ≡ false → not q ≡ true → false ≡ (ok and cond p q true)
+  still-no h k = sym (and-false-right ok (cond p q true) (rw (not-false p h) (not-true q k)))
 
-  pub within-end : every (under (rowOf m a) (rowOf m b)) i ≡ true → i ≤ n → n ≤ i → true ≡ within n (rowOf m a) (rowOf m b)
+  pub still-yes : not p ≡ false → not q ≡ false → ok ≡ (ok and cond p q true)
+  still-yes h k = rw (not-false p h, not-false q k) (sym (and-true ok))
+
+module _ (m : List Bool) (a b : ℕ) where
+  -- the loop over i along a part: ok so far, r is what `still` found
+  module _ (i : ℕ) (ok : Bool) (e : ok ≡ every (under (rowOf m a) (rowOf m b)) i) where
+    pub part-more : (r : Bool) → r ≡ (ok and cond (isMarked m (cell a i)) (isMarked m (cell b i)) true) → r ≡ every (under (rowOf m a) (rowOf m b)) (i + 1)
+    unfolding under every
+    part-more r q = rw (add-one i, ← e) q
+
+    pub part-all : (to : ℕ) → i ≤ to → to ≤ i → ok ≡ every (under (rowOf m a) (rowOf m b)) to
+    part-all to x y = e ∙ ap (every (under (rowOf m a) (rowOf m b))) (le-antisymm x y)
+
+  -- the loop over the parts: r is what `part_within` found of the records below e
+  module _ (n e : ℕ) (r : Bool) (q : r ≡ every (under (rowOf m a) (rowOf m b)) e) where
+    pub within-on : not r ≡ false → every (under (rowOf m a) (rowOf m b)) e ≡ true
+    within-on h = sym q ∙ not-false r h
+
+    pub within-no : e ≤ n → not r ≡ true → false ≡ within n (rowOf m a) (rowOf m b)
+    unfolding within
+    within-no l h =
+        on (every (under (rowOf m a) (rowOf m b)) n)
+        (λ y. clash (every-of (under (rowOf m a) (rowOf m b)) e (λ i x. every-at (under (rowOf m a) (rowOf m b)) n i y (omega arith))) (sym q ∙ not-true r h))
+        (λ y. sym y)
+
+  pub within-end : (n i : ℕ) → every (under (rowOf m a) (rowOf m b)) i ≡ true → i ≤ n → n ≤ i → true ≡ within n (rowOf m a) (rowOf m b)
   unfolding within
-  within-end inv x y = every-end (under (rowOf m a) (rowOf m b)) n i inv x y
+  within-end n i inv x y = every-end (under (rowOf m a) (rowOf m b)) n i inv x y
 
 -- ---- strictly: the code compared the sizes of records a and b
 

@@ -3,11 +3,15 @@ ghost use mathlib.Core.Path.{_≡_};
 ghost use mathlib.Core.Bool.{true, cond};
 ghost use Prim.Native.Nat.{_*_, _<_, _≤_};
 ghost use lib.ListN.{length};
+ghost use Rattle.lists.specs.Tests.{_and_, every};
 ghost use Rattle.layout.specs.Layout.{limit, vertexLimit, hyperedgeCount, hyperedgeAt, read};
 ghost use Rattle.layout.specs.WellFormed.{Formed};
 ghost use Rattle.marks.specs.Marks.{isMarked};
-ghost use Rattle.properties.specs.Properties.{within, isWithin};
+ghost use Rattle.properties.specs.Properties.{under, within, isWithin};
 ghost use Rattle.properties.specs.State.{rowOf, SetOf, RowPut, Sets};
+
+// The records of a row that are compared at a time.
+const PART: usize = 64;
 
 // The marks of the members of record j.
 fn member_marks(t: &[u32], j: usize) -> [bool; 256]
@@ -49,30 +53,62 @@ pub fn member_sets(t: &[u32], m: &mut [bool; 65536], sizes: &mut [usize; 256])
     }
 }
 
-// Where the one is marked, so is the other.
-fn under(p: bool, q: bool) -> bool
-    ensures { λ r. ⌜ r ≡ cond p q true ⌝ }
+// It held so far, and where the one is marked, so is the other.
+fn still(ok: bool, p: bool, q: bool) -> bool
+    ensures { λ r. ⌜ r ≡ (ok and cond p q true) ⌝ }
 {
-    if p {
-        return q;
+    if !p {
+        return ok;
     }
-    true
+    if !q {
+        return false;
+    }
+    ok
 }
 
-// Of n records, each that is marked in row a is marked in row b.
+// Of the records below `to`, each that is marked in row a is marked in row b; it holds below `from`. No record is skipped, so
+// that the compiler can take several at a time.
+fn part_within(m: &[bool; 65536], a: usize, b: usize, from: usize, to: usize) -> bool
+    requires { ⌜ (from ≤ to) × ((to ≤ vertexLimit) × ((a < vertexLimit) × (b < vertexLimit))) ⌝ }
+    requires { ⌜ every (under (rowOf (now m) a) (rowOf (now m) b)) from ≡ true ⌝ }
+    ensures { λ r. ⌜ r ≡ every (under (rowOf (now (m .entry)) a) (rowOf (now (m .entry)) b)) to ⌝ }
+{
+    let mut ok = true;
+    let mut i = from;
+    while i < to {
+        ok = still(
+            ok,
+            m[a * layout::VERTEX_LIMIT + i],
+            m[b * layout::VERTEX_LIMIT + i],
+        );
+        i += 1;
+    }
+    ok
+}
+
+// Where the part that begins at record i ends.
+fn part_end(i: usize, n: usize) -> usize
+    requires { ⌜ (i < n) × (n ≤ vertexLimit) ⌝ }
+    ensures { λ r. ⌜ (i < r) × (r ≤ n) ⌝ }
+{
+    if n - i < PART {
+        return n;
+    }
+    i + PART
+}
+
+// Of n records, each that is marked in row a is marked in row b: part by part, to the first part that fails.
 fn within(m: &[bool; 65536], n: usize, a: usize, b: usize) -> bool
     requires { ⌜ (n ≤ vertexLimit) × ((a < vertexLimit) × (b < vertexLimit)) ⌝ }
     ensures { λ r. ⌜ r ≡ within n (rowOf (now (m .entry)) a) (rowOf (now (m .entry)) b) ⌝ }
 {
     let mut i = 0;
     while i < n {
-        if !under(
-            m[a * layout::VERTEX_LIMIT + i],
-            m[b * layout::VERTEX_LIMIT + i],
-        ) {
+        let e = part_end(i, n);
+        if !part_within(m, a, b, i, e) {
             return false;
         }
-        i += 1;
+        i = e;
     }
     true
 }

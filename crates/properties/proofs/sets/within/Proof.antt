@@ -20,32 +20,14 @@ loop-holds : tie.Need-loop-holds Inv-loop μ-loop
 unfolding every
 loop-holds c = (search needs, refl)
 
-mul-under : tie.Need-mul-under Inv-loop μ-loop
-mul-under c = search needs
+part-end-requires : tie.Need-part-end-requires Inv-loop μ-loop
+part-end-requires c κs = search needs
 
-add-under : tie.Need-add-under Inv-loop μ-loop
-add-under c = search needs
-
-element-copy-out-under : tie.Need-element-copy-out-under Inv-loop μ-loop
-element-copy-out-under c = search needs
-
-mul-under-2 : tie.Need-mul-under-2 Inv-loop μ-loop
-mul-under-2 c = search needs
-
-add-under-2 : tie.Need-add-under-2 Inv-loop μ-loop
-add-under-2 c = search needs
-
-element-copy-out-under-2 : tie.Need-element-copy-out-under-2 Inv-loop μ-loop
-element-copy-out-under-2 c = search needs
-
-under-requires : tie.Need-under-requires Inv-loop μ-loop
-under-requires c κs = search needs
+part-within-requires : tie.Need-part-within-requires Inv-loop μ-loop
+part-within-requires c κs = search needs
 
 returns : tie.Need-returns Inv-loop μ-loop
 returns c = search within-no
-
-add-i : tie.Need-add-i Inv-loop μ-loop
-add-i c = search needs
 
 loop-less : tie.Need-loop-less Inv-loop μ-loop
 loop-less c = search needs
@@ -63,15 +45,9 @@ within-spec =
     Inv-loop
     μ-loop
     loop-holds
-    mul-under
-    add-under
-    element-copy-out-under
-    mul-under-2
-    add-under-2
-    element-copy-out-under-2
-    under-requires
+    part-end-requires
+    part-within-requires
     returns
-    add-i
     loop-less
     loop-again
     returns-2)
