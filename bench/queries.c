@@ -32,21 +32,24 @@ reply timed_write_frames(T, uint8_t *text, size_t text_bytes);
 
 enum { ROOM = 70000 };
 
-static uint32_t full[WORDS], out[ROOM];
+static uint32_t full[WORDS], nested[WORDS], out[ROOM];
 static uint8_t text[8 * ROOM];
 
-#define QUERY(what, limit_ns, call)                                   \
+#define QUERY(what, limit_ns, call) QUERY_ON(what, "full, dense numbers", limit_ns, call)
+
+#define QUERY_ON(what, table, limit_ns, call)                         \
     do {                                                              \
         reply r = call;                                               \
         if (r.number != 0) {                                          \
             printf("%s: refused %u\n", what, r.number);               \
             exit(1);                                                  \
         }                                                             \
-        TIME(what, "full, dense numbers", limit_ns, r = call);        \
+        TIME(what, table, limit_ns, r = call);                        \
     } while (0)
 
 int main(void) {
     fill_dense(full);
+    fill_nested(nested);
     puts("Queries, the test of the table included.");
     table_head();
     QUERY("adjacent_vertices_from", 8000, timed_get_adjacent_vertices_from(full, WORDS, 100, out, ROOM));
@@ -65,6 +68,8 @@ int main(void) {
     QUERY("is_k_uniform", 20000, timed_is_k_uniform(full, WORDS, 32));
     QUERY("inclusions", 1500000, timed_get_inclusions(full, WORDS, out, ROOM));
     QUERY("nestedness_profile", 1500000, timed_get_nestedness_profile(full, WORDS, out, ROOM));
+    QUERY_ON("inclusions", "nested lists", 1500000, timed_get_inclusions(nested, WORDS, out, ROOM));
+    QUERY_ON("nestedness_profile", "nested lists", 1500000, timed_get_nestedness_profile(nested, WORDS, out, ROOM));
     QUERY("write_frames", 200000, timed_write_frames(full, WORDS, text, sizeof text));
     QUERY("random_walk of 64 steps", 140625, timed_random_walk(full, WORDS, 0, 64, 1, out, ROOM));
     return 0;
