@@ -1,4 +1,4 @@
--- What inner functions leave: marks of what is left of a list, and words written from the front. Assumes nothing.
+-- What inner functions hold and leave: marks, member sets, sizes, and words written from the front. Assumes nothing.
 use mathlib.Core.Path.{_≡_}
 use mathlib.Core.Bool.{Bool, true, cond}
 use mathlib.Core.List.{List, []}

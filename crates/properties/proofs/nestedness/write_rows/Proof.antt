@@ -29,7 +29,7 @@ add-e c = search needs
 loop-holds : tie.Need-loop-holds Inv-loop μ-loop
 loop-holds c = (search needs, laid-none _ _ _)
 
--- a record is ahead, and there is room for its block
+-- a size is ahead, and there is room for its row
 room : (c : tie.In-loop Inv-loop μ-loop)
     → c .before .loop .c + length (rowIf (read limit (now (c .before .before .before .before .before .args .t))) (c .before .loop .s)) ≤ length (c .before .loop .out)
 room c =
