@@ -28,16 +28,26 @@ reply timed_topological_sort(T, OUT);
 reply timed_is_acyclic(T);
 reply timed_find_cut_vertices(T, OUT);
 reply timed_get_dfs(T, uint32_t vertex, OUT);
+reply timed_get_orphan_vertices(T, OUT);
+reply timed_get_orphan_hyperedges(T, OUT);
+reply timed_get_endpoints(T, OUT);
+reply timed_is_k_uniform(T, size_t k);
+reply timed_get_inclusions(T, OUT);
+reply timed_get_nestedness_profile(T, OUT);
 reply timed_random_walk(T, uint32_t start, size_t steps, uint64_t seed, OUT);
 reply timed_write_frames(T, uint8_t *text, size_t text_bytes);
 
 enum { ROOM = 70000 };
 
 static uint32_t full[WORDS], ascending[WORDS], out[ROOM];
+static uint32_t full[WORDS], nested[WORDS], out[ROOM];
 static uint8_t text[8 * ROOM];
 static const uint32_t pair[2] = {17, 18};
 
 #define ANSWER(what, table, expected, limit_ns, call)                 \
+#define QUERY(what, limit_ns, call) QUERY_ON(what, "full, dense numbers", limit_ns, call)
+
+#define QUERY_ON(what, table, limit_ns, call)                         \
     do {                                                              \
         reply r = call;                                               \
         if (r.number != expected) {                                   \
@@ -52,6 +62,7 @@ static const uint32_t pair[2] = {17, 18};
 int main(void) {
     fill_dense(full);
     fill_ascending(ascending);
+    fill_nested(nested);
     puts("Queries, the test of the table included.");
     table_head();
     QUERY("adjacent_vertices_from", 8000, timed_get_adjacent_vertices_from(full, WORDS, 100, out, ROOM));
@@ -72,6 +83,14 @@ int main(void) {
     ANSWER("is_acyclic", "full, dense, lists ascending", 0, 120000, timed_is_acyclic(ascending, WORDS));
     QUERY("cut_vertices", 3000000, timed_find_cut_vertices(full, WORDS, out, ROOM));
     QUERY("dfs", 80000, timed_get_dfs(full, WORDS, 0, out, ROOM));
+    QUERY("orphan_vertices", 20000, timed_get_orphan_vertices(full, WORDS, out, ROOM));
+    QUERY("orphan_hyperedges", 20000, timed_get_orphan_hyperedges(full, WORDS, out, ROOM));
+    QUERY("endpoints", 20000, timed_get_endpoints(full, WORDS, out, ROOM));
+    QUERY("is_k_uniform", 20000, timed_is_k_uniform(full, WORDS, 32));
+    QUERY("inclusions", 1500000, timed_get_inclusions(full, WORDS, out, ROOM));
+    QUERY("nestedness_profile", 1500000, timed_get_nestedness_profile(full, WORDS, out, ROOM));
+    QUERY_ON("inclusions", "nested lists", 1500000, timed_get_inclusions(nested, WORDS, out, ROOM));
+    QUERY_ON("nestedness_profile", "nested lists", 1500000, timed_get_nestedness_profile(nested, WORDS, out, ROOM));
     QUERY("write_frames", 200000, timed_write_frames(full, WORDS, text, sizeof text));
     QUERY("random_walk of 4,096 steps", 2500000, timed_random_walk(full, WORDS, 0, 4096, 1, out, ROOM));
     return 0;

@@ -96,4 +96,12 @@ static void fill_one_place(uint32_t *t) {
             numbers[i++] = x;
     fill_table(t, numbers, numbers[VERTICES - 1] + 1);
 }
+
+/* The dense table with nested lists: each six records have one set, strictly within the sets of all later ones. */
+static void fill_nested(uint32_t *t) {
+    fill_dense(t);
+    for (int j = 0; j < HYPEREDGES; j++)
+        for (int i = 0; i < MEMBERS; i++)
+            t[HYPEREDGES_AT + RECORD * j + 3 + i] = VERTICES - MEMBERS + (uint32_t)(i <= j / 6 ? i : j / 6);
+}
 #endif

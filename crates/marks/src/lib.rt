@@ -27,7 +27,7 @@ pub fn mark(t: &[u32], x: u32, marks: &mut [bool; 256])
 }
 
 // How many of the first n records are marked.
-fn count_marked(marks: &[bool; 256], n: usize) -> usize
+pub fn count_marked(marks: &[bool; 256], n: usize) -> usize
     requires { ⌜ n ≤ vertexLimit ⌝ }
     ensures { λ r. ⌜ r ≡ count (isMarked (now (marks .entry))) n ⌝ }
 {
@@ -43,7 +43,7 @@ fn count_marked(marks: &[bool; 256], n: usize) -> usize
 }
 
 // Writes the numbers of the marked ones of the n live vertices from the front of out.
-fn write_marked(t: &[u32], n: usize, marks: &[bool; 256], out: &mut [u32])
+pub fn write_marked(t: &[u32], n: usize, marks: &[bool; 256], out: &mut [u32])
     requires { ⌜ Formed limit (now t) ⌝ }
     requires { ⌜ (n ≡ vertexCount (now t)) × (count (isMarked (now marks)) n ≤ length (now out)) ⌝ }
     ensures { λ _. ⌜ now (out .exit) ≡ over (map (numberAt (liveVertices (read limit (now (t .entry))))) (chosen (isMarked (now (marks .entry))) n)) (now (out .entry)) ⌝ }

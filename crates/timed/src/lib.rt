@@ -175,3 +175,33 @@ pub extern "C" fn timed_random_walk(
 pub extern "C" fn timed_write_frames(t: &[u32], text: &mut [u8]) -> Reply {
     layout::reply_of(frames::write_frames(t, text))
 }
+
+#[no_mangle]
+pub extern "C" fn timed_get_orphan_vertices(t: &[u32], out: &mut [u32]) -> Reply {
+    layout::reply_of(properties::get_orphan_vertices(t, out))
+}
+
+#[no_mangle]
+pub extern "C" fn timed_get_orphan_hyperedges(t: &[u32], out: &mut [u32]) -> Reply {
+    layout::reply_of(properties::get_orphan_hyperedges(t, out))
+}
+
+#[no_mangle]
+pub extern "C" fn timed_get_endpoints(t: &[u32], out: &mut [u32]) -> Reply {
+    layout::reply_of(properties::get_endpoints(t, out))
+}
+
+#[no_mangle]
+pub extern "C" fn timed_is_k_uniform(t: &[u32], k: usize) -> Reply {
+    layout::reply_of(properties::is_k_uniform(t, k))
+}
+
+#[no_mangle]
+pub extern "C" fn timed_get_inclusions(t: &[u32], out: &mut [u32]) -> Reply {
+    layout::reply_of(properties::get_inclusions(t, out))
+}
+
+#[no_mangle]
+pub extern "C" fn timed_get_nestedness_profile(t: &[u32], out: &mut [u32]) -> Reply {
+    layout::reply_of(properties::get_nestedness_profile(t, out))
+}

@@ -1,0 +1,16 @@
+-- `properties::sets::still` meets its contract. Assumes nothing.
+use Rattle.properties.proofs.SetRows.{still-bare, still-no, still-yes}
+use Rattle.properties.proofs.sets.still.Statement.{statement}
+use Rattle.properties.proofs.sets.still.Tie as tie
+
+returns : tie.Need-returns
+returns c = search still-bare
+
+returns-2 : tie.Need-returns-2
+returns-2 c = search still-no
+
+returns-3 : tie.Need-returns-3
+returns-3 c = search still-yes
+
+pub still-spec : {M : Type 1} → statement M
+still-spec = tie.close (tie.spec returns returns-2 returns-3)

@@ -1,0 +1,3 @@
+pub mod Properties
+pub mod Results
+pub mod State
