@@ -1,2 +1,4 @@
 pub mod Frames
 pub mod Put
+pub mod Reading
+pub mod Faulty
