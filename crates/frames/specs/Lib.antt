@@ -2,3 +2,4 @@ pub mod Frames
 pub mod Put
 pub mod Reading
 pub mod Faulty
+pub mod Bytes
