@@ -5,3 +5,6 @@ pub mod Held
 pub mod First
 pub mod Good
 pub mod Written
+pub mod Fill
+pub mod Begun
+pub mod Accepted

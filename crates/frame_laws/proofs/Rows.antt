@@ -9,7 +9,7 @@ use native.Mathlib.Numerals.{add-one}
 use native.Mathlib.Omega.{arith}
 use lib.Dec.{ltb}
 use lib.ListN.{length, getD, take, drop, length-append}
-use lib.Seq.{drop-at, take-at}
+use lib.Seq.{drop-at, take-at, drop-length}
 use borrow.Author.Tests.{lt-ltb, le-ltb}
 use Rattle.lists.specs.Lists.{tab, flat}
 use Rattle.lists.proofs.Cases.{on}
@@ -105,7 +105,7 @@ module _ (t : Table) where
 
   -- ---- texts with the first g lines
 
-  pub agrees-text : (g : ℕ) (text : List ℕ) → Agrees g text t → text ≡ joined (tab (rowAt t) g) ++ drop (placeAt t g) text
+  agrees-text : (g : ℕ) (text : List ℕ) → Agrees g text t → text ≡ joined (tab (rowAt t) g) ++ drop (placeAt t g) text
   unfolding placeAt tab flat
   agrees-text zero text a = refl
   agrees-text (suc g) text a =
@@ -158,5 +158,16 @@ module _ (t : Table) where
   pub text-length : length (frameText t) ≡ placeAt t (rows t)
   text-length = ap length text-rows ∙ place-is (rows t)
 
-  pub text-lines : take (rows t) (linesOf (frameText t)) ≡ tab (rowAt t) (rows t)
-  text-lines = agrees-front (rows t) (frameText t) text-agrees
+  pub text-lines : linesOf (frameText t) ≡ tab (rowAt t) (rows t)
+  unfolding linesOf
+  text-lines =
+      agrees-lines (rows t) (frameText t) text-agrees
+      ∙ ap (λ (l : List ℕ). tab (rowAt t) (rows t) ++ linesOf l) (ap (λ (k : ℕ). drop k (frameText t)) (sym text-length) ∙ drop-length (frameText t))
+      ∙ append-nil (tab (rowAt t) (rows t))
+
+  -- a text that has all of them and ends behind the last
+  pub agrees-whole : (text : List ℕ) → Agrees (rows t) text t → length text ≡ placeAt t (rows t) → frameText t ≡ text
+  agrees-whole text a e =
+      text-rows ∙ sym (append-nil (joined (tab (rowAt t) (rows t))))
+      ∙ ap (λ (l : List ℕ). joined (tab (rowAt t) (rows t)) ++ l) (sym (ap (λ (k : ℕ). drop k text) (sym e) ∙ drop-length text))
+      ∙ sym (agrees-text (rows t) text a)
