@@ -8,3 +8,4 @@ pub mod Written
 pub mod Fill
 pub mod Begun
 pub mod Accepted
+pub mod Faulty
