@@ -9,3 +9,4 @@ pub mod Fill
 pub mod Begun
 pub mod Accepted
 pub mod Faulty
+pub mod Long

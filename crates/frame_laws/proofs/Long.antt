@@ -1,0 +1,116 @@
+-- Long texts: no written text is longer than 58,977 bytes, and a reader that sees one byte more sees enough. Assumes nothing.
+use mathlib.Core.Path.{_≡_, refl, sym, ap, _∙_}
+use mathlib.Core.Bool.{Bool, true, false, cond}
+use mathlib.Core.List.{List, _++_}
+use Prim.Native.Nat.{ℕ, zero, suc, _+_, _-_, _*_, _≤_, _<_}
+use native.Mathlib.Nat.{add-zero}
+use native.Mathlib.Omega.{arith}
+use lib.Dec.{eqb}
+use lib.ListN.{length, getD, take, drop, length-drop, take-append-drop}
+use lib.Seq.{take-all, length-take-le, drop-append-le, take-append-le}
+use Rattle.lists.specs.Lists.{sameList}
+use Rattle.lists.proofs.Cases.{on, on-below}
+use Rattle.layout.specs.Content.{Table}
+use Rattle.layout.specs.Layout.{limit, read}
+use Rattle.layout.proofs.Back.{noHyperedge, read-holdable}
+use Rattle.frames.specs.Frames.{headLength, vertexLength, hyperedgeLength, frameText}
+use Rattle.frames.specs.Reading.{standsAt, vertexPlace, accepted, faultyLine, readResult}
+use Rattle.frames.specs.Faulty.{Written, Begins, Faulty}
+use Rattle.frame_laws.proofs.Rows.{rowAt, rows, placeAt, Agrees, vertex-place, hyperedge-next, text-length}
+use Rattle.frame_laws.proofs.Held.{Held, held-of, members-le}
+use Rattle.frame_laws.proofs.Accepted.{accepted-written}
+use Rattle.frame_laws.proofs.Faulty.{Shares, shares-begins, begins-shares, faulty-line, faulty-only}
+
+-- 33 bytes of a head, 256 vertices of 21 bytes, 192 hyperedges of 279 bytes
+abbrev pub longest : ℕ
+longest = 58977
+
+-- ---- how long the lines are
+
+module _ (t : Table) (d : Held t) where
+  hyperedges-end : (j : ℕ) → j ≤ length (t .hyperedges) → placeAt t (suc (length (t .vertices) + j)) ≤ vertexPlace (length (t .vertices)) + j * hyperedgeLength limit
+  hyperedges-end zero h = rw add-zero (omega (arith, vertex-place t (length (t .vertices)) (omega arith)))
+  hyperedges-end (suc j) h = omega (arith, hyperedge-next t j, members-le t d j h, hyperedges-end j (omega arith))
+
+  pub place-le : (k : ℕ) → k ≤ rows t → placeAt t k ≤ longest
+  unfolding placeAt
+  place-le zero h = omega arith
+  place-le (suc k) h =
+      let n : ℕ = length (t .vertices) in
+      on-below k n
+      (λ l. omega (arith, vertex-place t k (omega arith), d .vertices-le))
+      (λ l.
+        let e : n + (k - n) ≡ k = omega arith in
+        rw e at (bound n (k - n) (d .vertices-le) (omega (arith, d .hyperedges-le)) (hyperedges-end (k - n) (omega arith))))
+    where
+      bound : (n j : ℕ) → n ≤ 256 → j ≤ 192 → placeAt t (suc (length (t .vertices) + j)) ≤ vertexPlace n + j * hyperedgeLength limit
+          → placeAt t (suc (length (t .vertices) + j)) ≤ longest
+      bound n j a b c = omega arith
+
+pub accepted-short : (text : List ℕ) → accepted text ≡ true → length text ≤ longest
+accepted-short text e =
+    let w : Written text = accepted-written text e in
+    let t : Table = read limit (w .table) in
+    omega (arith, ap length (w .gives), text-length t, place-le t (held-of t (read-holdable limit (w .table) (w .formed))) (rows t) (omega arith))
+
+long-refused : (text : List ℕ) → longest < length text → accepted text ≡ false
+long-refused text h = on (accepted text) (λ e. absurd (omega (arith, accepted-short text e))) (λ e. e)
+
+-- ---- a text cut behind place k
+
+cut-part : (text : List ℕ) (p l k : ℕ) → p + l ≤ k → k ≤ length text → take l (drop p (take k text)) ≡ take l (drop p text)
+cut-part text p l k h m =
+    let len : length (take k text) ≡ k = length-take-le k text m in
+    sym (
+    ap (λ (x : List ℕ). take l (drop p x)) (sym (take-append-drop k text))
+    ∙ ap (take l) (drop-append-le p (take k text) (drop k text) (omega arith))
+    ∙ take-append-le l (drop p (take k text)) (drop k text) (omega (arith, length-drop p (take k text))))
+
+cut-stands : (text : List ℕ) (p : ℕ) (xs : List ℕ) (k : ℕ) → p + length xs ≤ k → k ≤ length text → standsAt (take k text) p xs ≡ standsAt text p xs
+unfolding standsAt
+cut-stands text p xs k h m = rw (cut-part text p (length xs) k h m)
+
+module _ (text : List ℕ) (k : ℕ) (h : longest < k) (m : k ≤ length text) where
+  row-in : (t : Table) → Held t → (g : ℕ) → g ≤ rows t → (i : ℕ) → i < g → placeAt t i + length (rowAt t i) ≤ k
+  unfolding placeAt
+  row-in t d g l i q = let b : placeAt t (suc i) ≤ longest = place-le t d (suc i) (omega arith) in omega arith
+
+  cut-shares : (g : ℕ) → Shares g text → Shares g (take k text)
+  cut-shares g s = record {
+    content = s .content;
+    held = s .held;
+    worded = s .worded;
+    enough = s .enough;
+    agrees = λ i q. cut-stands text (placeAt (s .content) i) (rowAt (s .content) i) k (row-in (s .content) (s .held) g (s .enough) i q) m ∙ s .agrees i q;
+  }
+
+  shares-cut : (g : ℕ) → Shares g (take k text) → Shares g text
+  shares-cut g s = record {
+    content = s .content;
+    held = s .held;
+    worded = s .worded;
+    enough = s .enough;
+    agrees = λ i q. sym (cut-stands text (placeAt (s .content) i) (rowAt (s .content) i) k (row-in (s .content) (s .held) g (s .enough) i q) m) ∙ s .agrees i q;
+  }
+
+  refused : accepted text ≡ false
+  refused = long-refused text (omega arith)
+
+  cut-refused : accepted (take k text) ≡ false
+  cut-refused = long-refused (take k text) (omega (arith, length-take-le k text m))
+
+  cut-faulty : faultyLine text ≡ faultyLine (take k text)
+  cut-faulty =
+      let f : Faulty text (faultyLine text) = faulty-line text refused in
+      faulty-only (take k text) cut-refused (faultyLine text) (record {
+        before = shares-begins (faultyLine text - 1) (take k text) (cut-shares (faultyLine text - 1) (begins-shares (faultyLine text - 1) text refused (f .before)));
+        never = λ b. f .never (shares-begins (faultyLine text) text (shares-cut (faultyLine text) (begins-shares (faultyLine text) (take k text) cut-refused b)));
+      })
+
+-- what a read answers and leaves is decided by the first 58,978 bytes
+pub long-text : (text lent : List ℕ) (k : ℕ) → longest < k → readResult text lent ≡ readResult (take k text) lent
+unfolding readResult
+long-text text lent k h =
+    on-below k (length text)
+    (λ l. rw (refused text k h (omega arith), cut-refused text k h (omega arith), cut-faulty text k h (omega arith)))
+    (λ l. ap (λ (x : List ℕ). readResult x lent) (sym (take-all k text l)))
