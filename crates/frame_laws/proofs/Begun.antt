@@ -1,15 +1,13 @@
 -- The good lines of a text, and a content whose text has them. Assumes nothing.
-use mathlib.Core.Path.{_≡_, refl, sym, ap, _∙_}
-use mathlib.Core.Bool.{Bool, true, cond}
+use mathlib.Core.Path.{_≡_}
+use mathlib.Core.Bool.{true}
 use mathlib.Core.List.{List}
-use Prim.Native.Nat.{ℕ, zero, suc, _+_, _-_, _≤_, _<_, min}
+use Prim.Native.Nat.{ℕ, suc, _+_, _-_, _≤_, _<_, min}
 use native.Mathlib.Omega.{arith}
-use lib.Dec.{ltb}
-use lib.ListN.{length}
 use borrow.Author.Tests.{lt-ltb, le-ltb}
 use Rattle.lists.proofs.Tab.{length-tab}
 use Rattle.layout.specs.Content.{Table}
-use Rattle.frames.specs.Reading.{verticesDue, hyperedgesDue, hyperedgePlace, vertexGood, hyperedgeGood, lineGood, linesDue}
+use Rattle.frames.specs.Reading.{verticesDue, hyperedgesDue, hyperedgePlace, lineGood, linesDue}
 use Rattle.frame_laws.proofs.Rows.{rows, placeAt, Agrees, agrees-less}
 use Rattle.frame_laws.proofs.Held.{Held, Worded}
 use Rattle.frame_laws.proofs.Fill.{filledVertex, filledHyperedge, filled, Begun, filled-held, filled-worded, filled-place, filled-agrees}

@@ -1,7 +1,7 @@
 -- The faulty line: a text that is not accepted has exactly one, the line behind the good ones; an accepted text has none. Assumes nothing.
 use mathlib.Core.Path.{_≡_, refl, sym, ap, _∙_}
-use mathlib.Core.Bool.{Bool, true, false}
-use mathlib.Core.List.{List, [], _∷_, _++_}
+use mathlib.Core.Bool.{true, false}
+use mathlib.Core.List.{List, [], _++_}
 use Prim.Native.Nat.{ℕ, zero, suc, _+_, _-_, _≤_, _<_}
 use native.Mathlib.Nat.{le-antisymm}
 use native.Mathlib.Omega.{arith}
@@ -58,21 +58,21 @@ begins-shares k text refused b =
     let len : length (linesOf (frameText t)) ≡ rows t = ap length (text-lines t) ∙ length-tab (rowAt t) (rows t) in
     on-below (rows t) k
     (λ h.
-      let whole : take k (linesOf (frameText t)) ≡ linesOf (frameText t) = take-all k (linesOf (frameText t)) (omega arith) in
-      let all-lines : linesOf text ≡ linesOf (frameText t) = sym (taken-whole k (linesOf text) (omega (arith, ap length same, ap length whole))) ∙ same ∙ whole in
-      let is : frameText t ≡ text = sym (lines-joined (frameText t)) ∙ ap joined (sym all-lines) ∙ lines-joined text in
-      clash (written-accepted text (record { table = w .table; fits = w .fits; formed = w .formed; gives = is })) refused)
+    let whole : take k (linesOf (frameText t)) ≡ linesOf (frameText t) = take-all k (linesOf (frameText t)) (omega arith) in
+    let all-lines : linesOf text ≡ linesOf (frameText t) = sym (taken-whole k (linesOf text) (omega (arith, ap length same, ap length whole))) ∙ same ∙ whole in
+    let is : frameText t ≡ text = sym (lines-joined (frameText t)) ∙ ap joined (sym all-lines) ∙ lines-joined text in
+    clash (written-accepted text (record { table = w .table; fits = w .fits; formed = w .formed; gives = is })) refused)
     (λ h.
-      let front : take k (linesOf text) ≡ tab (rowAt t) k = same ∙ agrees-front t k (frameText t) (agrees-less (rows t) k (frameText t) t h (text-agrees t)) in
-      record {
-        content = t;
-        held = held-of t (read-holdable limit (w .table) (w .formed));
-        worded = read-worded (w .table) (w .fits);
-        enough = h;
-        agrees = agrees-of t k text (joined (drop k (linesOf text))) (
-            sym (lines-joined text) ∙ ap joined (sym (take-append-drop k (linesOf text)))
-            ∙ flat-append (λ l. l) (take k (linesOf text)) (drop k (linesOf text)) ∙ ap (λ (l : List (List ℕ)). joined l ++ joined (drop k (linesOf text))) front);
-      })
+    let front : take k (linesOf text) ≡ tab (rowAt t) k = same ∙ agrees-front t k (frameText t) (agrees-less (rows t) k (frameText t) t h (text-agrees t)) in
+    record {
+      content = t;
+      held = held-of t (read-holdable limit (w .table) (w .formed));
+      worded = read-worded (w .table) (w .fits);
+      enough = h;
+      agrees = agrees-of t k text (joined (drop k (linesOf text))) (
+          sym (lines-joined text) ∙ ap joined (sym (take-append-drop k (linesOf text)))
+          ∙ flat-append (λ l. l) (take k (linesOf text)) (drop k (linesOf text)) ∙ ap (λ (l : List (List ℕ)). joined l ++ joined (drop k (linesOf text))) front);
+    })
 
 -- fewer lines
 begins-less : (k h : ℕ) (text : List ℕ) → h ≤ k → Begins k text → Begins h text
@@ -152,8 +152,8 @@ faulty-only text refused k f =
     on-below k (faultyLine text)
     (λ h. absurd (f .never (begins-less (faultyLine text - 1) k text (omega arith) (one .before))))
     (λ h. on-below (faultyLine text) k
-      (λ l. absurd (one .never (begins-less (k - 1) (faultyLine text) text (omega arith) (f .before))))
-      (λ l. le-antisymm l h))
+    (λ l. absurd (one .never (begins-less (k - 1) (faultyLine text) text (omega arith) (f .before))))
+    (λ l. le-antisymm l h))
 
 -- an accepted text has no faulty line
 pub accepted-faultless : (text : List ℕ) → accepted text ≡ true → (k : ℕ) → Faulty text k → ⊥

@@ -1,29 +1,29 @@
 -- A content whose text has the good lines that a text begins with: the records that follow are filled in. Assumes nothing.
 use mathlib.Core.Path.{_≡_, refl, sym, ap, ap₂, _∙_}
-use mathlib.Core.Bool.{Bool, true, false, cond, _||_}
-use mathlib.Core.List.{List, [], _∷_, _++_, map}
-use Prim.Native.Nat.{ℕ, zero, suc, _+_, _-_, _*_, _≤_, _<_}
+use mathlib.Core.Bool.{true, cond}
+use mathlib.Core.List.{List, [], _∷_, map}
+use Prim.Native.Nat.{ℕ, zero, suc, _+_, _-_, _≤_, _<_}
 use native.Mathlib.Nat.{add-zero}
 use native.Mathlib.Omega.{arith}
-use lib.Dec.{eqb, leb, ltb}
+use lib.Dec.{eqb, ltb}
 use lib.ListN.{length, getD}
-use borrow.Author.Tests.{ltb-true, leb-true, eqb-true, lt-ltb, le-ltb, le-leb}
+use borrow.Author.Tests.{ltb-true, leb-true, eqb-true, lt-ltb, le-ltb}
 use Rattle.lists.specs.Tests.{_and_}
-use Rattle.lists.specs.Lists.{all, memb, tab, isBelow, ascending, Ascending}
+use Rattle.lists.specs.Lists.{all, tab, isBelow}
 use Rattle.lists.proofs.Cases.{on-below, and-left, and-right, and-both, or-true}
 use Rattle.lists.proofs.All.{all-of}
 use Rattle.lists.proofs.Ascend.{ascending-of}
 use Rattle.lists.proofs.Tab.{tab-ext, length-tab, getD-tab, map-tab}
 use Rattle.lists.proofs.Memb.{memb-getD}
 use mathlib.Core.Logic.{⊎-elim}
-use Rattle.layout.specs.Content.{Vertex, Hyperedge, Table, vertexNumber, hyperedgeNumber, liveVertices, liveHyperedges, isLive, numbered, membersLive}
+use Rattle.layout.specs.Content.{Vertex, Hyperedge, Table, vertexNumber, hyperedgeNumber, liveVertices, isLive, numbered, membersLive}
 use Rattle.layout.specs.Layout.{vertexLimit, hyperedgeLimit, limit}
 use Rattle.layout.specs.WellFormed.{counted}
 use Rattle.layout.proofs.Back.{noVertex, noHyperedge}
-use Rattle.frames.specs.Frames.{headFrame, line, headLine, vertexLine, hyperedgeLine, hyperedgeLength, vertexOf, hyperedgeOf}
-use Rattle.frames.specs.Reading.{standsAt, nextVertexOf, nextHyperedgeOf, verticesDue, hyperedgesDue, vertexPlace, weightIn, countIn, memberIn, vertexIn, hyperedgePlace, hyperedgeFrom, hyperedgeIn, contentOf, headGood, climbsTo, numberGood, vertexNumberIn, hyperedgeNumberIn, vertexGood, hyperedgeGood}
+use Rattle.frames.specs.Frames.{headLine, vertexLine, hyperedgeLine, hyperedgeLength, vertexOf, hyperedgeOf}
+use Rattle.frames.specs.Reading.{standsAt, nextVertexOf, nextHyperedgeOf, verticesDue, hyperedgesDue, vertexPlace, weightIn, countIn, memberIn, vertexIn, hyperedgePlace, hyperedgeIn, contentOf, headGood, climbsTo, numberGood, vertexNumberIn, hyperedgeNumberIn, vertexGood, hyperedgeGood}
 use Rattle.frames.specs.Faulty.{isWord}
-use Rattle.frame_laws.proofs.Rows.{rowAt, rows, placeAt, Agrees, row-vertex, row-hyperedge, vertex-place, hyperedge-next}
+use Rattle.frame_laws.proofs.Rows.{rowAt, placeAt, Agrees, row-vertex, row-hyperedge, vertex-place, hyperedge-next}
 use Rattle.frame_laws.proofs.Standing.{wordValues, next-vertex-fits, next-hyperedge-fits, vertex-fits, hyperedge-fits, hyperedge-members-fit}
 use Rattle.frame_laws.proofs.Held.{Held, Worded}
 
@@ -70,8 +70,8 @@ module _ (number : ℕ → ℕ) (k n next : ℕ) (room : n ≤ next) (h : k ≤ 
       on-below (suc i) k
       (λ q. rw (lt-ltb i k (omega arith), lt-ltb (suc i) k q) (climbs-to i q))
       (λ q. on-below i k
-        (λ s. rw (lt-ltb i k s, le-ltb (suc i) k q) (omega (arith, ahead i s)))
-        (λ s. rw (le-ltb i k s, le-ltb (suc i) k q) (omega arith)))
+      (λ s. rw (lt-ltb i k s, le-ltb (suc i) k q) (omega (arith, ahead i s)))
+      (λ s. rw (le-ltb i k s, le-ltb (suc i) k q) (omega arith)))
 
   fill-numbered : numbered (tab (fillNumber number k n next) n) next ≡ true
   fill-numbered = numbered-tab (fillNumber number k n next) n next fill-rises fill-below
@@ -258,8 +258,8 @@ module _ (text : List ℕ) (a b : ℕ) (s : Begun text a b) where
   hyperedge-members-word j h =
       on-below j b
       (λ l. let p : ℕ = hyperedgePlace text j in
-        rw (old-hyperedge j l) (ap (λ (k : ℕ). all isWord (tab (memberIn text p) k)) (sym (length-tab (memberIn text p) (countIn text p)))
-        ∙ hyperedge-members-fit text p (hyperedgeIn text j) (hyperedge-line j l)))
+      rw (old-hyperedge j l) (ap (λ (k : ℕ). all isWord (tab (memberIn text p) k)) (sym (length-tab (memberIn text p) (countIn text p)))
+      ∙ hyperedge-members-fit text p (hyperedgeIn text j) (hyperedge-line j l)))
       (λ l. rw (new-hyperedge j l) (and-both _ _ (lt-ltb (filledVertex text a 0 .number) wordValues (vertex-number-word 0 (some-vertex (omega arith)))) refl))
 
   pub filled-worded : Worded t

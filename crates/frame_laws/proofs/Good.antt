@@ -1,26 +1,25 @@
 -- A text that has the first lines of a written one: those lines are good, and they are read as what was written. Assumes nothing.
-use mathlib.Core.Path.{_≡_, refl, sym, ap, ap₂, _∙_}
-use mathlib.Core.Bool.{Bool, true, false, cond, _||_}
-use mathlib.Core.List.{List, [], _∷_, _++_, map}
-use Prim.Native.Nat.{ℕ, zero, suc, _+_, _-_, _*_, _≤_, _<_}
+use mathlib.Core.Path.{_≡_, refl, sym, ap, _∙_}
+use mathlib.Core.Bool.{true}
+use mathlib.Core.List.{List}
+use Prim.Native.Nat.{ℕ, zero, suc, _+_, _-_, _≤_, _<_}
 use native.Mathlib.Nat.{add-zero}
 use native.Mathlib.Omega.{arith}
-use lib.Dec.{eqb, leb, ltb}
+use lib.Dec.{eqb, ltb}
 use lib.ListN.{length, getD, List·getD-map}
 use borrow.Author.Tests.{lt-ltb, le-ltb, le-leb, eq-eqb}
 use Rattle.lists.specs.Tests.{_and_}
-use Rattle.lists.specs.Lists.{all, tab}
+use Rattle.lists.specs.Lists.{tab}
 use Rattle.lists.proofs.Cases.{on-below, and-both, or-right}
 use Rattle.lists.proofs.Tab.{tab-ext}
 use Rattle.lists.proofs.Flat.{tab-getD}
 use Rattle.lists.proofs.Maps.{map-length}
-use Rattle.layout.specs.Content.{Vertex, Hyperedge, Table, vertexNumber, hyperedgeNumber, liveVertices, liveHyperedges, numbered, membersLive}
-use Rattle.layout.specs.Layout.{vertexLimit, hyperedgeLimit, limit}
-use Rattle.layout.specs.WellFormed.{counted}
+use Rattle.layout.specs.Content.{Table, vertexNumber, hyperedgeNumber, liveVertices, liveHyperedges, numbered}
+use Rattle.layout.specs.Layout.{vertexLimit, hyperedgeLimit}
 use Rattle.layout.proofs.Back.{noVertex, noHyperedge}
 use Rattle.layout.proofs.Read.{numbered-ascends}
-use Rattle.frames.specs.Frames.{headFrame, line, headLine, vertexLine, hyperedgeLine, hyperedgeLength}
-use Rattle.frames.specs.Reading.{standsAt, nextVertexOf, nextHyperedgeOf, verticesDue, hyperedgesDue, vertexPlace, countIn, vertexIn, hyperedgePlace, hyperedgeFrom, hyperedgeIn, contentOf, headGood, climbsTo, numberGood, vertexNumberIn, hyperedgeNumberIn, vertexGood, hyperedgeGood, lineGood, linesDue}
+use Rattle.frames.specs.Frames.{headLine, hyperedgeLine}
+use Rattle.frames.specs.Reading.{standsAt, nextVertexOf, nextHyperedgeOf, verticesDue, hyperedgesDue, vertexPlace, countIn, vertexIn, hyperedgePlace, hyperedgeIn, contentOf, headGood, climbsTo, numberGood, vertexNumberIn, hyperedgeNumberIn, vertexGood, hyperedgeGood, lineGood, linesDue}
 use Rattle.frame_laws.proofs.Rows.{rowAt, rows, placeAt, Agrees, row-vertex, row-hyperedge, vertex-place, hyperedge-next}
 use Rattle.frame_laws.proofs.Standing.{next-vertex-back, next-hyperedge-back, vertices-back, hyperedges-back, vertex-back, count-back, hyperedge-back}
 use Rattle.frame_laws.proofs.Held.{numbered-ahead, numbered-room, Held, members-le, some-vertex, Worded}

@@ -1,22 +1,22 @@
 -- A content that a table can hold: its numbers, its counts, and its words. Assumes nothing.
-use mathlib.Core.Path.{_≡_, refl, sym, ap, ap₂, _∙_}
+use mathlib.Core.Path.{_≡_, refl, ap}
 use mathlib.Core.Bool.{Bool, true}
 use mathlib.Core.List.{List, [], _∷_, _++_}
 use Prim.Native.Nat.{ℕ, zero, suc, _+_, _-_, _*_, _≤_, _<_, suc-le-suc}
-use native.Mathlib.Nat.{zero-lt-suc, le-of-suc-le-suc}
+use native.Mathlib.Nat.{zero-lt-suc}
 use native.Mathlib.Omega.{arith}
-use lib.ListN.{length, getD, take, drop, replicate, List·getD-eq-default, length-take, length-drop}
+use lib.ListN.{length, getD, take, drop, replicate, List·getD-eq-default, length-take}
 use lib.Seq.{getD-take, getD-drop}
 use borrow.Author.Tests.{ltb-true, leb-true, lt-ltb, le-leb}
 use Rattle.lists.specs.Tests.{_and_}
-use Rattle.lists.specs.Lists.{all, tab, flat, pad, Ascending}
+use Rattle.lists.specs.Lists.{all, flat, pad, Ascending}
 use Rattle.lists.proofs.Cases.{on-below, and-left, and-right, and-both}
 use Rattle.lists.proofs.All.{all-at, all-of}
 use Rattle.lists.proofs.Tab.{length-tab, getD-tab}
 use Rattle.lists.proofs.Maps.{map-length}
 use Rattle.lists.proofs.Memb.{memb-at}
-use Rattle.layout.specs.Content.{Vertex, Hyperedge, Table, vertexNumber, liveVertices, liveHyperedges, isLive, numbered, membersLive, valid}
-use Rattle.layout.specs.Layout.{vertexLimit, hyperedgeLimit, vertexSize, recordSize, limit, vertexAt, hyperedgeAt, vertexCount, hyperedgeCount, hyperedgeWord, countAt, membersAt, read, vertexWords, hyperedgeWords, words, vertexWord}
+use Rattle.layout.specs.Content.{Table, vertexNumber, liveVertices, liveHyperedges, isLive, numbered, membersLive, valid}
+use Rattle.layout.specs.Layout.{vertexLimit, hyperedgeLimit, vertexSize, recordSize, limit, vertexAt, hyperedgeAt, vertexCount, hyperedgeCount, hyperedgeWord, countAt, read, vertexWords, hyperedgeWords, words, vertexWord}
 use Rattle.layout.specs.WellFormed.{counted, holdable}
 use Rattle.layout.proofs.Back.{noVertex, noHyperedge}
 use Rattle.layout.proofs.Read.{numbered-ascends, numbered-below}

@@ -1,22 +1,20 @@
 -- Long texts: no written text is longer than 58,977 bytes, and a reader that sees one byte more sees enough. Assumes nothing.
-use mathlib.Core.Path.{_≡_, refl, sym, ap, _∙_}
-use mathlib.Core.Bool.{Bool, true, false, cond}
-use mathlib.Core.List.{List, _++_}
+use mathlib.Core.Path.{_≡_, sym, ap, _∙_}
+use mathlib.Core.Bool.{true, false}
+use mathlib.Core.List.{List}
 use Prim.Native.Nat.{ℕ, zero, suc, _+_, _-_, _*_, _≤_, _<_}
 use native.Mathlib.Nat.{add-zero}
 use native.Mathlib.Omega.{arith}
-use lib.Dec.{eqb}
-use lib.ListN.{length, getD, take, drop, length-drop, take-append-drop}
+use lib.ListN.{length, take, drop, length-drop, take-append-drop}
 use lib.Seq.{take-all, length-take-le, drop-append-le, take-append-le}
-use Rattle.lists.specs.Lists.{sameList}
 use Rattle.lists.proofs.Cases.{on, on-below}
 use Rattle.layout.specs.Content.{Table}
 use Rattle.layout.specs.Layout.{limit, read}
-use Rattle.layout.proofs.Back.{noHyperedge, read-holdable}
-use Rattle.frames.specs.Frames.{headLength, vertexLength, hyperedgeLength, frameText}
+use Rattle.layout.proofs.Back.{read-holdable}
+use Rattle.frames.specs.Frames.{hyperedgeLength}
 use Rattle.frames.specs.Reading.{standsAt, vertexPlace, accepted, faultyLine, readResult}
-use Rattle.frames.specs.Faulty.{Written, Begins, Faulty}
-use Rattle.frame_laws.proofs.Rows.{rowAt, rows, placeAt, Agrees, vertex-place, hyperedge-next, text-length}
+use Rattle.frames.specs.Faulty.{Written, Faulty}
+use Rattle.frame_laws.proofs.Rows.{rowAt, rows, placeAt, vertex-place, hyperedge-next, text-length}
 use Rattle.frame_laws.proofs.Held.{Held, held-of, members-le}
 use Rattle.frame_laws.proofs.Accepted.{accepted-written}
 use Rattle.frame_laws.proofs.Faulty.{Shares, shares-begins, begins-shares, faulty-line, faulty-only}
@@ -40,8 +38,8 @@ module _ (t : Table) (d : Held t) where
       on-below k n
       (λ l. omega (arith, vertex-place t k (omega arith), d .vertices-le))
       (λ l.
-        let e : n + (k - n) ≡ k = omega arith in
-        rw e at (bound n (k - n) (d .vertices-le) (omega (arith, d .hyperedges-le)) (hyperedges-end (k - n) (omega arith))))
+      let e : n + (k - n) ≡ k = omega arith in
+      rw e at (bound n (k - n) (d .vertices-le) (omega (arith, d .hyperedges-le)) (hyperedges-end (k - n) (omega arith))))
     where
       bound : (n j : ℕ) → n ≤ 256 → j ≤ 192 → placeAt t (suc (length (t .vertices) + j)) ≤ vertexPlace n + j * hyperedgeLength limit
           → placeAt t (suc (length (t .vertices) + j)) ≤ longest

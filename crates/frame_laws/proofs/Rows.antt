@@ -1,11 +1,10 @@
 -- The lines of a content's text, where each begins, and the texts that have the first of them. Assumes nothing.
 use mathlib.Core.Path.{_≡_, refl, sym, ap, ap₂, _∙_}
-use mathlib.Core.Bool.{Bool, true, false, cond}
+use mathlib.Core.Bool.{true, cond}
 use mathlib.Core.Logic.{⊎-elim}
 use mathlib.Core.List.{List, [], _∷_, _++_, append-assoc, append-nil}
-use Prim.Native.Nat.{ℕ, zero, suc, _+_, _-_, _*_, _≤_, _<_}
+use Prim.Native.Nat.{ℕ, zero, suc, _+_, _-_, _≤_, _<_}
 use native.Mathlib.Nat.{add-zero, le-of-suc-le-suc, eq-or-lt-of-le, not-suc-le-zero}
-use native.Mathlib.Numerals.{add-one}
 use native.Mathlib.Omega.{arith}
 use lib.Dec.{ltb}
 use lib.ListN.{length, getD, take, drop, length-append}
@@ -15,9 +14,9 @@ use Rattle.lists.specs.Lists.{tab, flat}
 use Rattle.lists.proofs.Cases.{on}
 use Rattle.lists.proofs.Tab.{tab-suc, tab-ext, length-tab}
 use Rattle.lists.proofs.Flat.{flat-append, flat-snoc, tab-getD}
-use Rattle.layout.specs.Content.{Vertex, Hyperedge, Table}
+use Rattle.layout.specs.Content.{Vertex, Table}
 use Rattle.layout.proofs.Back.{noVertex, noHyperedge}
-use Rattle.frames.specs.Frames.{headFrame, vertexFrame, hyperedgeFrame, headLine, vertexLine, hyperedgeLine, frameText, numberBytes, shortBytes, sealed, byteDigits, digits, line, headLength, vertexLength, hyperedgeLength}
+use Rattle.frames.specs.Frames.{headFrame, vertexFrame, headLine, vertexLine, hyperedgeLine, frameText, numberBytes, shortBytes, sealed, byteDigits, digits, line, vertexLength, hyperedgeLength}
 use Rattle.frames.specs.Reading.{standsAt, vertexPlace}
 use Rattle.frames.specs.Faulty.{linesOf}
 use Rattle.frames.proofs.Parse.{stands-eq, stands-by}

@@ -1,8 +1,8 @@
 -- What is read where a written line stands. Assumes nothing.
 use mathlib.Core.Path.{_≡_, refl, sym, ap, ap₂, _∙_}
-use mathlib.Core.Bool.{Bool, true}
+use mathlib.Core.Bool.{true}
 use mathlib.Core.List.{List, [], _∷_, _++_, append-assoc}
-use Prim.Native.Nat.{ℕ, zero, suc, _+_, _*_, _/_, _%_, _≤_, _<_}
+use Prim.Native.Nat.{ℕ, suc, _+_, _*_, _/_, _%_, _<_}
 use native.Mathlib.Omega.{arith}
 use lib.ListN.{length, getD, drop}
 use lib.Seq.{drop-drop}
@@ -13,7 +13,7 @@ use Rattle.lists.proofs.Cases.{and-left, and-right, and-both}
 use Rattle.lists.proofs.Tab.{tab-ext}
 use Rattle.lists.proofs.Flat.{flat-append}
 use Rattle.layout.specs.Content.{Vertex, Hyperedge, Table}
-use Rattle.frames.specs.Frames.{byteValues, byteOf, numberBytes, shortBytes, headFrame, vertexFrame, hyperedgeFrame, check, sealed, digit, byteDigits, digits, lineEnd, line, headLine, vertexLine, hyperedgeLine, vertexOf, hyperedgeOf}
+use Rattle.frames.specs.Frames.{byteValues, byteOf, numberBytes, shortBytes, headFrame, vertexFrame, hyperedgeFrame, check, sealed, byteDigits, digits, lineEnd, line, headLine, vertexLine, hyperedgeLine, vertexOf}
 use Rattle.frames.specs.Reading.{byteAt, shortAt, numberAt, standsAt, nextVertexOf, nextHyperedgeOf, verticesDue, hyperedgesDue, numberIn, weightIn, countIn, memberIn, hyperedgeFrom}
 use Rattle.frames.specs.Bytes.{bytesAt}
 use Rattle.frames.specs.Faulty.{isWord}

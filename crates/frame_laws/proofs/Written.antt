@@ -1,10 +1,9 @@
 -- What the writer gives is accepted, and read back as the table that it was written from. Assumes nothing.
 use mathlib.Core.Path.{_≡_, refl, sym, ap, _∙_}
-use mathlib.Core.Bool.{Bool, true, cond}
+use mathlib.Core.Bool.{true}
 use mathlib.Core.List.{List}
-use Prim.Native.Nat.{ℕ, suc, _+_, _≤_, _<_}
+use Prim.Native.Nat.{ℕ}
 use native.Mathlib.Omega.{arith}
-use lib.Dec.{eqb}
 use lib.ListN.{length}
 use borrow.Author.Tests.{eq-eqb}
 use Rattle.lists.specs.Tests.{_and_}
@@ -19,9 +18,9 @@ use Rattle.layout.proofs.Shape.{shaped-of}
 use Rattle.layout.proofs.Words.{words-read}
 use Rattle.layout.proofs.Back.{read-holdable}
 use Rattle.frames.specs.Frames.{frameText}
-use Rattle.frames.specs.Reading.{verticesDue, hyperedgesDue, hyperedgePlace, contentOf, lineGood, linesDue, goodLines, accepted, readResult}
+use Rattle.frames.specs.Reading.{hyperedgesDue, hyperedgePlace, contentOf, lineGood, linesDue, goodLines, accepted, readResult}
 use Rattle.frames.specs.Faulty.{isWord, Written}
-use Rattle.frame_laws.proofs.Rows.{rows, placeAt, text-agrees, text-length}
+use Rattle.frame_laws.proofs.Rows.{rows, text-agrees, text-length}
 use Rattle.frame_laws.proofs.Held.{Held, held-of, Worded, read-worded}
 use Rattle.frame_laws.proofs.First.{first-none}
 use Rattle.frame_laws.proofs.Good.{hyperedges-due, lines-due, hyperedge-place, line-good, content-is}
