@@ -84,7 +84,7 @@ begins-less k h text l b = record {
 
 -- ---- the good lines
 
-abbrev empty : Table
+abbrev pub empty : Table
 empty = record { nextVertex = 0; nextHyperedge = 0; vertices = []; hyperedges = [] }
 
 empty-held : Held empty
@@ -109,9 +109,12 @@ empty-worded = record {
   members = λ j h. absurd (omega arith);
 }
 
+pub empty-written : Written (frameText empty)
+empty-written = text-written empty empty-held empty-worded
+
 -- some written text has g lines that are good
 good-begins : (text : List ℕ) (g : ℕ) → g ≤ linesDue text → ((k : ℕ) → k < g → lineGood text k ≡ true) → Begins g text
-good-begins text zero l good = record { other = frameText empty; written = text-written empty empty-held empty-worded; same = refl }
+good-begins text zero l good = record { other = frameText empty; written = empty-written; same = refl }
 good-begins text (suc g) l good =
     shares-begins (suc g) text (record {
       content = completed text g;

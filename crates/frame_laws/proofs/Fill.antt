@@ -39,7 +39,7 @@ rising-far f n r i (suc d) h =
     let e : i + suc (suc d) ≡ suc (i + suc d) = omega arith in
     rw e (omega (arith, rising-far f n r i d (omega arith), r (i + suc d) (omega arith)))
 
-numbered-tab : (f : ℕ → ℕ) (n next : ℕ) → ((i : ℕ) → suc i < n → f i < f (suc i)) → ((i : ℕ) → i < n → f i < next) → numbered (tab f n) next ≡ true
+pub numbered-tab : (f : ℕ → ℕ) (n next : ℕ) → ((i : ℕ) → suc i < n → f i < f (suc i)) → ((i : ℕ) → i < n → f i < next) → numbered (tab f n) next ≡ true
 unfolding numbered
 numbered-tab f n next r b =
     let len : length (tab f n) ≡ n = length-tab f n in

@@ -9,4 +9,6 @@ pub mod Fill
 pub mod Begun
 pub mod Accepted
 pub mod Faulty
+pub mod Longest
 pub mod Long
+pub mod Document

@@ -1,13 +1,14 @@
 -- The lines of a text: what is written as a line is one, and the lines in a row are the text. Assumes nothing.
 use mathlib.Core.Path.{_≡_, refl, ap, _∙_}
-use mathlib.Core.Bool.{false}
+use mathlib.Core.Bool.{true, false}
 use mathlib.Core.List.{List, [], _∷_, _++_, append-assoc}
 use Prim.Native.Nat.{ℕ, _+_, _/_, _%_, _≤_}
 use native.Mathlib.Omega.{arith}
 use lib.Dec.{eqb}
 use borrow.Author.Tests.{lt-ltb, le-ltb, ne-eqb}
-use Rattle.lists.specs.Lists.{flat}
+use Rattle.lists.specs.Lists.{memb, flat}
 use Rattle.lists.proofs.Cases.{on, on-below}
+use Rattle.lists.proofs.Memb.{memb-snoc-self}
 use Rattle.frames.specs.Frames.{digit, byteDigits, digits, sealed, line}
 use Rattle.frames.specs.Faulty.{onto, linesOf}
 
@@ -28,6 +29,11 @@ digits-line (b ∷ bs) rest = rw (digit-on (b / 16), digit-on (b % 16), digits-l
 pub line-first : (fr rest : List ℕ) → linesOf (line fr ++ rest) ≡ line fr ∷ linesOf rest
 unfolding line
 line-first fr rest = ap linesOf (append-assoc (digits (sealed fr)) (10 ∷ []) rest) ∙ digits-line (sealed fr) rest
+
+-- which ends with a line feed
+pub line-ended : (fr : List ℕ) → memb 10 (line fr) ≡ true
+unfolding line
+line-ended fr = memb-snoc-self 10 (digits (sealed fr))
 
 -- the lines one after the other
 abbrev pub joined : List (List ℕ) → List ℕ

@@ -1,55 +1,21 @@
--- Long texts: no written text is longer than 58,977 bytes, and a reader that sees one byte more sees enough. Assumes nothing.
+-- Long texts: a reader that sees one byte more than the longest written text has sees enough. Assumes nothing.
 use mathlib.Core.Path.{_≡_, sym, ap, _∙_}
-use mathlib.Core.Bool.{true, false}
+use mathlib.Core.Bool.{false}
 use mathlib.Core.List.{List}
-use Prim.Native.Nat.{ℕ, zero, suc, _+_, _-_, _*_, _≤_, _<_}
-use native.Mathlib.Nat.{add-zero}
+use Prim.Native.Nat.{ℕ, suc, _+_, _-_, _≤_, _<_}
 use native.Mathlib.Omega.{arith}
 use lib.ListN.{length, take, drop, length-drop, take-append-drop}
 use lib.Seq.{take-all, length-take-le, drop-append-le, take-append-le}
 use Rattle.lists.proofs.Cases.{on, on-below}
 use Rattle.layout.specs.Content.{Table}
-use Rattle.layout.specs.Layout.{limit, read}
-use Rattle.layout.proofs.Back.{read-holdable}
-use Rattle.frames.specs.Frames.{hyperedgeLength}
-use Rattle.frames.specs.Reading.{standsAt, vertexPlace, accepted, faultyLine, readResult}
-use Rattle.frames.specs.Faulty.{Written, Faulty}
-use Rattle.frame_laws.proofs.Rows.{rowAt, rows, placeAt, vertex-place, hyperedge-next, text-length}
-use Rattle.frame_laws.proofs.Held.{Held, held-of, members-le}
-use Rattle.frame_laws.proofs.Accepted.{accepted-written}
+use Rattle.layout.specs.Layout.{read}
+use Rattle.frames.specs.Reading.{standsAt, accepted, faultyLine, readResult}
+use Rattle.frames.specs.Faulty.{Faulty}
+use Rattle.frame_laws.specs.Longest.{longest}
+use Rattle.frame_laws.proofs.Rows.{rowAt, rows, placeAt}
+use Rattle.frame_laws.proofs.Held.{Held}
+use Rattle.frame_laws.proofs.Longest.{place-le, accepted-short}
 use Rattle.frame_laws.proofs.Faulty.{Shares, shares-begins, begins-shares, faulty-line, faulty-only}
-
--- 33 bytes of a head, 256 vertices of 21 bytes, 192 hyperedges of 279 bytes
-abbrev pub longest : ℕ
-longest = 58977
-
--- ---- how long the lines are
-
-module _ (t : Table) (d : Held t) where
-  hyperedges-end : (j : ℕ) → j ≤ length (t .hyperedges) → placeAt t (suc (length (t .vertices) + j)) ≤ vertexPlace (length (t .vertices)) + j * hyperedgeLength limit
-  hyperedges-end zero h = rw add-zero (omega (arith, vertex-place t (length (t .vertices)) (omega arith)))
-  hyperedges-end (suc j) h = omega (arith, hyperedge-next t j, members-le t d j h, hyperedges-end j (omega arith))
-
-  pub place-le : (k : ℕ) → k ≤ rows t → placeAt t k ≤ longest
-  unfolding placeAt
-  place-le zero h = omega arith
-  place-le (suc k) h =
-      let n : ℕ = length (t .vertices) in
-      on-below k n
-      (λ l. omega (arith, vertex-place t k (omega arith), d .vertices-le))
-      (λ l.
-      let e : n + (k - n) ≡ k = omega arith in
-      rw e at (bound n (k - n) (d .vertices-le) (omega (arith, d .hyperedges-le)) (hyperedges-end (k - n) (omega arith))))
-    where
-      bound : (n j : ℕ) → n ≤ 256 → j ≤ 192 → placeAt t (suc (length (t .vertices) + j)) ≤ vertexPlace n + j * hyperedgeLength limit
-          → placeAt t (suc (length (t .vertices) + j)) ≤ longest
-      bound n j a b c = omega arith
-
-pub accepted-short : (text : List ℕ) → accepted text ≡ true → length text ≤ longest
-accepted-short text e =
-    let w : Written text = accepted-written text e in
-    let t : Table = read limit (w .table) in
-    omega (arith, ap length (w .gives), text-length t, place-le t (held-of t (read-holdable limit (w .table) (w .formed))) (rows t) (omega arith))
 
 long-refused : (text : List ℕ) → longest < length text → accepted text ≡ false
 long-refused text h = on (accepted text) (λ e. absurd (omega (arith, accepted-short text e))) (λ e. e)

@@ -10,7 +10,7 @@ use lib.Dec.{ltb}
 use lib.ListN.{length, getD, take, drop, length-append}
 use lib.Seq.{drop-at, take-at, drop-length}
 use borrow.Author.Tests.{lt-ltb, le-ltb}
-use Rattle.lists.specs.Lists.{tab, flat}
+use Rattle.lists.specs.Lists.{memb, tab, flat}
 use Rattle.lists.proofs.Cases.{on}
 use Rattle.lists.proofs.Tab.{tab-suc, tab-ext, length-tab}
 use Rattle.lists.proofs.Flat.{flat-append, flat-snoc, tab-getD}
@@ -21,7 +21,7 @@ use Rattle.frames.specs.Reading.{standsAt, vertexPlace}
 use Rattle.frames.specs.Faulty.{linesOf}
 use Rattle.frames.proofs.Parse.{stands-eq, stands-by}
 use Rattle.frames.proofs.Text.{hyperedge-length}
-use Rattle.frame_laws.proofs.Lines.{line-first, joined}
+use Rattle.frame_laws.proofs.Lines.{line-first, line-ended, joined}
 
 -- line k of a content's text: the head, then the vertices, then the hyperedges
 unfoldable pub rowAt : Table → ℕ → List ℕ
@@ -80,12 +80,18 @@ module _ (t : Table) where
   row-first zero rest = line-first _ rest
   row-first (suc k) rest = on (ltb k (length (t .vertices))) (λ e. rw e (line-first _ rest)) (λ e. rw e (line-first _ rest))
 
+  -- and ends with a line feed
+  pub row-ended : (k : ℕ) → memb 10 (rowAt t k) ≡ true
+  unfolding rowAt headLine vertexLine hyperedgeLine
+  row-ended zero = line-ended _
+  row-ended (suc k) = on (ltb k (length (t .vertices))) (λ e. rw e (line-ended _)) (λ e. rw e (line-ended _))
+
   -- ---- places
 
   joined-next : (g : ℕ) → joined (tab (rowAt t) (suc g)) ≡ joined (tab (rowAt t) g) ++ rowAt t g
   joined-next g = ap joined (tab-suc (rowAt t) g) ∙ flat-snoc (λ l. l) (tab (rowAt t) g) (rowAt t g)
 
-  place-is : (g : ℕ) → length (joined (tab (rowAt t) g)) ≡ placeAt t g
+  pub place-is : (g : ℕ) → length (joined (tab (rowAt t) g)) ≡ placeAt t g
   unfolding placeAt tab flat
   place-is zero = refl
   place-is (suc g) = ap length (joined-next g) ∙ length-append (joined (tab (rowAt t) g)) (rowAt t g) ∙ ap (λ (n : ℕ). n + length (rowAt t g)) (place-is g)
@@ -113,7 +119,7 @@ module _ (t : Table) where
       ∙ sym (append-assoc (joined (tab (rowAt t) g)) (rowAt t g) (drop (placeAt t g + length (rowAt t g)) text))
       ∙ ap (λ (l : List ℕ). l ++ drop (placeAt t g + length (rowAt t g)) text) (sym (joined-next g))
 
-  agrees-lines : (g : ℕ) (text : List ℕ) → Agrees g text t → linesOf text ≡ tab (rowAt t) g ++ linesOf (drop (placeAt t g) text)
+  pub agrees-lines : (g : ℕ) (text : List ℕ) → Agrees g text t → linesOf text ≡ tab (rowAt t) g ++ linesOf (drop (placeAt t g) text)
   unfolding placeAt tab
   agrees-lines zero text a = refl
   agrees-lines (suc g) text a =
@@ -137,7 +143,7 @@ module _ (t : Table) where
 
   -- ---- the whole text
 
-  text-rows : frameText t ≡ joined (tab (rowAt t) (rows t))
+  pub text-rows : frameText t ≡ joined (tab (rowAt t) (rows t))
   unfolding frameText tab flat rowAt
   text-rows =
       let n : ℕ = length (t .vertices) in
