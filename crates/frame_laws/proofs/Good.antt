@@ -42,13 +42,13 @@ module _ (text : List ℕ) (t : Table) (d : Held t) (w : Worded t) (g : ℕ) (a 
     unfolding rowAt placeAt
     head-stands = a 0 h
 
-    pub next-vertex-is : nextVertexOf text ≡ t .nextVertex
+    next-vertex-is : nextVertexOf text ≡ t .nextVertex
     next-vertex-is = next-vertex-back text t head-stands (w .next-vertex)
 
-    pub next-hyperedge-is : nextHyperedgeOf text ≡ t .nextHyperedge
+    next-hyperedge-is : nextHyperedgeOf text ≡ t .nextHyperedge
     next-hyperedge-is = next-hyperedge-back text t head-stands (w .next-hyperedge)
 
-    pub vertices-due : verticesDue text ≡ length (t .vertices)
+    vertices-due : verticesDue text ≡ length (t .vertices)
     vertices-due = vertices-back text t head-stands (omega (arith, d .vertices-le))
 
     pub hyperedges-due : hyperedgesDue text ≡ length (t .hyperedges)
@@ -85,7 +85,7 @@ module _ (text : List ℕ) (t : Table) (d : Held t) (w : Worded t) (g : ℕ) (a 
       (rw (vertices-due (omega arith), next-vertex-is (omega arith), ← e) (number-good (vertexNumberIn text) (liveVertices t) (t .nextVertex) i (d .vertices-numbered) (rw e h) (λ k q.
       ap vertexNumber (vertex-is k (omega arith) (omega arith)) ∙ sym (List·getD-map vertexNumber (t .vertices) k noVertex))))
 
-  pub vertices-are : suc (length (t .vertices)) ≤ g → tab (vertexIn text) (verticesDue text) ≡ t .vertices
+  vertices-are : suc (length (t .vertices)) ≤ g → tab (vertexIn text) (verticesDue text) ≡ t .vertices
   vertices-are l =
       ap (tab (vertexIn text)) (vertices-due (omega arith))
       ∙ tab-ext (vertexIn text) (λ i. getD (t .vertices) i noVertex) (length (t .vertices)) (λ i h. vertex-is i h (omega arith)) ∙ tab-getD (t .vertices) noVertex
@@ -106,7 +106,7 @@ module _ (text : List ℕ) (t : Table) (d : Held t) (w : Worded t) (g : ℕ) (a 
     hyperedge-stands : (j : ℕ) → suc (length (t .vertices) + j) < g → standsAt text (hyperedgePlace text j) (hyperedgeLine (getD (t .hyperedges) j noHyperedge)) ≡ true
     hyperedge-stands j l = rw (hyperedge-place j (omega arith), ← row-hyperedge t j) (a (suc (length (t .vertices) + j)) l)
 
-    pub hyperedge-is : (j : ℕ) → suc (length (t .vertices) + j) < g → hyperedgeIn text j ≡ getD (t .hyperedges) j noHyperedge
+    hyperedge-is : (j : ℕ) → suc (length (t .vertices) + j) < g → hyperedgeIn text j ≡ getD (t .hyperedges) j noHyperedge
     hyperedge-is j l =
         let h : j < length (t .hyperedges) = omega arith in
         hyperedge-back text (hyperedgePlace text j) (getD (t .hyperedges) j noHyperedge) (hyperedge-stands j l) (w .hyperedge-number j h) (w .hyperedge-weight j h)

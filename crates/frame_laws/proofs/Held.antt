@@ -26,7 +26,7 @@ use Rattle.frame_laws.proofs.Standing.{wordValues}
 -- ---- numbers
 
 -- numbers rise at least as fast as places
-pub gap : (xs : List ℕ) → Ascending xs → (i d : ℕ) → i + d < length xs → getD xs i 0 + d ≤ getD xs (i + d) 0
+gap : (xs : List ℕ) → Ascending xs → (i d : ℕ) → i + d < length xs → getD xs i 0 + d ≤ getD xs (i + d) 0
 gap xs asc i zero h = let e : i + 0 ≡ i = omega arith in omega (arith, ap (λ (k : ℕ). getD xs k 0) e)
 gap xs asc i (suc d) h =
     let e : i + suc d ≡ suc (i + d) = omega arith in
@@ -77,7 +77,7 @@ module _ (t : Table) (d : Held t) where
   unfolding counted
   members-le j h = leb-true _ _ (and-right _ _ (d .counts j h))
 
-  pub members-pos : (j : ℕ) → j < length (t .hyperedges) → 0 < length (getD (t .hyperedges) j noHyperedge .members)
+  members-pos : (j : ℕ) → j < length (t .hyperedges) → 0 < length (getD (t .hyperedges) j noHyperedge .members)
   unfolding counted
   members-pos j h = ltb-true _ _ (and-left _ _ (d .counts j h))
 
@@ -131,7 +131,7 @@ unfolding all flat
 all-flat f [] d h = refl
 all-flat f (x ∷ xs) d h = all-join isWord (f x) (flat f xs) (h zero (zero-lt-suc (length xs))) (all-flat f xs d (λ i l. h (suc i) (suc-le-suc l)))
 
-all-none : (k : ℕ) → all isWord (replicate k 0) ≡ true
+pub all-none : (k : ℕ) → all isWord (replicate k 0) ≡ true
 unfolding all isWord
 all-none zero = refl
 all-none (suc k) = and-both _ _ refl (all-none k)

@@ -8,7 +8,6 @@ use lib.ListN.{length, take, drop, length-drop, take-append-drop}
 use lib.Seq.{take-all, length-take-le, drop-append-le, take-append-le}
 use Rattle.lists.proofs.Cases.{on, on-below}
 use Rattle.layout.specs.Content.{Table}
-use Rattle.layout.specs.Layout.{read}
 use Rattle.frames.specs.Reading.{standsAt, accepted, faultyLine, readResult}
 use Rattle.frames.specs.Faulty.{Faulty}
 use Rattle.frame_laws.specs.Longest.{longest}

@@ -17,10 +17,10 @@ use Rattle.layout.specs.WellFormed.{counted}
 use Rattle.layout.proofs.Back.{noVertex, noHyperedge, read-holdable}
 use Rattle.frames.specs.Frames.{vertexOf, hyperedgeOf, hyperedgeLength, frameText}
 use Rattle.frames.specs.Reading.{vertexPlace, accepted}
-use Rattle.frames.specs.Faulty.{isWord, Written}
+use Rattle.frames.specs.Faulty.{Written}
 use Rattle.frame_laws.specs.Longest.{longest}
 use Rattle.frame_laws.proofs.Rows.{rows, placeAt, vertex-place, hyperedge-next, text-length}
-use Rattle.frame_laws.proofs.Held.{Held, held-of, members-le, Worded}
+use Rattle.frame_laws.proofs.Held.{Held, held-of, members-le, Worded, all-none}
 use Rattle.frame_laws.proofs.Fill.{numbered-tab}
 use Rattle.frame_laws.proofs.Accepted.{text-written, accepted-written}
 
@@ -97,11 +97,6 @@ full-held = record {
   live = λ j h. rw (full-hyperedge j h) (full-live limit);
 }
 
-full-words : (n : ℕ) → all isWord (replicate n 0) ≡ true
-unfolding all isWord
-full-words zero = refl
-full-words (suc n) = and-both _ _ refl (full-words n)
-
 full-worded : Worded full
 full-worded = record {
   next-vertex = omega arith;
@@ -110,7 +105,7 @@ full-worded = record {
   vertex-weight = λ i h. rw (full-vertex i h) (omega arith);
   hyperedge-number = λ j h. rw (full-hyperedge j h) (omega (arith, full-hyperedges));
   hyperedge-weight = λ j h. rw (full-hyperedge j h) (omega arith);
-  members = λ j h. rw (full-hyperedge j h) (full-words limit);
+  members = λ j h. rw (full-hyperedge j h) (all-none limit);
 }
 
 full-end : (j : ℕ) → j ≤ length (full .hyperedges) → placeAt full (suc (length (full .vertices) + j)) ≡ vertexPlace (length (full .vertices)) + j * hyperedgeLength limit

@@ -43,11 +43,11 @@ whole-number x h =
     omega arith
 
 module _ (text : List ℕ) (p : ℕ) (rest : List ℕ) where
-  pub byte-back : (b : ℕ) → b < byteValues → drop p text ≡ byteDigits b ++ rest → byteAt text p ≡ b
+  byte-back : (b : ℕ) → b < byteValues → drop p text ≡ byteDigits b ++ rest → byteAt text p ≡ b
   unfolding all digits flat bytesAt byteDigits
   byte-back b h e = ap (λ (l : List ℕ). getD l 0 0) (digits-bytes text (b ∷ []) p rest (and-both _ _ (lt-ltb b byteValues h) refl) e .0)
 
-  pub short-back : (x : ℕ) → x < 65536 → drop p text ≡ digits (shortBytes x) ++ rest → shortAt text p ≡ x
+  short-back : (x : ℕ) → x < 65536 → drop p text ≡ digits (shortBytes x) ++ rest → shortAt text p ≡ x
   unfolding bytesAt shortBytes shortAt
   short-back x h e =
       let r = digits-bytes text (shortBytes x) p rest (short-low x) e .0 in
@@ -60,15 +60,15 @@ module _ (text : List ℕ) (p : ℕ) (rest : List ℕ) where
     unfolding numberBytes
     number-stands = digits-bytes text (numberBytes x) p rest (number-low x) e .0
 
-    pub number-behind : drop (p + 8) text ≡ rest
+    number-behind : drop (p + 8) text ≡ rest
     unfolding numberBytes
     number-behind = digits-bytes text (numberBytes x) p rest (number-low x) e .1
 
     -- a number that was written is a word
-    pub number-fits : numberAt text p < wordValues
+    number-fits : numberAt text p < wordValues
     number-fits = number-word text p (rw number-stands (number-low x))
 
-    pub number-back : x < wordValues → numberAt text p ≡ x
+    number-back : x < wordValues → numberAt text p ≡ x
     unfolding bytesAt numberBytes numberAt
     number-back h =
         let r = number-stands in
