@@ -14,10 +14,12 @@ use Rattle.lists.specs.Tests.{_and_}
 use Rattle.lists.specs.Lists.{memb, tab, flat}
 use Rattle.lists.proofs.Cases.{on, on-below, clash, and-left, and-right, or-false-left, or-false-right}
 use Rattle.lists.proofs.Tab.{length-tab, getD-tab}
-use Rattle.layout.specs.declared.Answer.the-variants.{BadText}
+use Rattle.layout.specs.declared.Answer.the-variants.{Done, BadText}
 use Rattle.layout.specs.Content.{Table}
 use Rattle.layout.specs.Layout.{limit, size, read}
-use Rattle.layout.specs.Answers.{result}
+use Rattle.layout.specs.WellFormed.{wellFormed}
+use Rattle.layout.specs.Answers.{Result, result}
+use Rattle.layout.proofs.Shape.{shaped-of}
 use Rattle.layout.proofs.Back.{read-holdable}
 use Rattle.frames.specs.Frames.{frameText}
 use Rattle.frames.specs.Reading.{hyperedgesDue, hyperedgePlace, lineGood, linesDue, goodLines, accepted, faultyLine, readResult}
@@ -28,7 +30,7 @@ use Rattle.frame_laws.proofs.Held.{Held, held-of, Worded, read-worded}
 use Rattle.frame_laws.proofs.First.{first-le, first-before, first-from, first-none}
 use Rattle.frame_laws.proofs.Good.{hyperedges-due, lines-due, hyperedge-place, line-good}
 use Rattle.frame_laws.proofs.Begun.{completed, completed-agrees}
-use Rattle.frame_laws.proofs.Written.{written-accepted}
+use Rattle.frame_laws.proofs.Written.{written-accepted, round-trip}
 use Rattle.frame_laws.proofs.Accepted.{accepted-written}
 use Rattle.frame_laws.proofs.Faulty.{empty, empty-written, faulty-line, faulty-only, accepted-faultless}
 
@@ -38,6 +40,17 @@ written-or-faulty text = on (accepted text) (λ e. inl (accepted-written text e)
 
 pub written-faultless : (text : List ℕ) → Written text → (k : ℕ) → Faulty text k → ⊥
 written-faultless text w k f = accepted-faultless text (written-accepted text w) k f
+
+-- a written text is read as the table that it was written from
+pub read-written : (text lent : List ℕ) (w : Written text) → length lent ≡ size limit → readResult text lent ≡ result (Done 0) (w .table)
+read-written text lent w len = ap (λ (x : List ℕ). readResult x lent) (sym (w .gives)) ∙ round-trip (w .table) lent (w .fits) (w .formed) len
+
+-- so there is only one such table
+pub written-once : (text : List ℕ) (w v : Written text) → w .table ≡ v .table
+unfolding wellFormed
+written-once text w v =
+    let len : length (w .table) ≡ size limit = shaped-of limit (w .table) (and-left _ _ (w .formed)) .sized in
+    ap (λ (r : Result). r .lent) (sym (read-written text (w .table) w len) ∙ read-written text (w .table) v len)
 
 -- 12 names the faulty line, and changes no word
 pub read-faulty : (text lent : List ℕ) (k : ℕ) → length lent ≡ size limit → Faulty text k → readResult text lent ≡ result (BadText k) lent

@@ -12,3 +12,4 @@ pub mod Faulty
 pub mod Longest
 pub mod Long
 pub mod Document
+pub mod Examples
