@@ -1,4 +1,4 @@
--- A text is accepted exactly when the writer gives it for some well-formed table. Assumes nothing.
+-- What is accepted is what the writer gives for some well-formed table. Assumes nothing.
 use mathlib.Core.Path.{_≡_, refl, sym, ap, _∙_}
 use mathlib.Core.Bool.{true}
 use mathlib.Core.List.{List}
