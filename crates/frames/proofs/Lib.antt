@@ -3,3 +3,4 @@ pub mod Bytes
 pub mod Lines
 pub mod Text
 pub mod Document
+pub mod Parse

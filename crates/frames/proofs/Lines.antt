@@ -13,7 +13,7 @@ use Rattle.frames.specs.Frames.{byteValues, numberBytes, shortBytes, hea
 use Rattle.frames.specs.Put.{pasted, Put}
 use Rattle.frames.proofs.Laws.{put-append, put-as}
 
-sum-append : (xs ys : List ℕ) → byteSum (xs ++ ys) ≡ byteSum xs + byteSum ys
+pub sum-append : (xs ys : List ℕ) → byteSum (xs ++ ys) ≡ byteSum xs + byteSum ys
 unfolding byteSum
 sum-append [] ys = omega arith
 sum-append (x ∷ xs) ys = omega (arith, sum-append xs ys)

@@ -1,2 +1,5 @@
 pub mod Frames
 pub mod Put
+pub mod Reading
+pub mod Faulty
+pub mod Bytes

@@ -33,7 +33,7 @@ fn wide(x: u32) -> usize
 
 // ---- bytes
 
-fn digit(k: u8) -> u8
+pub fn digit(k: u8) -> u8
     requires { ⌜ k < 16 ⌝ }
     ensures { λ r. ⌜ r ≡ digit k ⌝ }
 {

@@ -1,0 +1,157 @@
+-- A content that a table can hold: its numbers, its counts, and its words. Assumes nothing.
+use mathlib.Core.Path.{_≡_, refl, ap}
+use mathlib.Core.Bool.{Bool, true}
+use mathlib.Core.List.{List, [], _∷_, _++_}
+use Prim.Native.Nat.{ℕ, zero, suc, _+_, _-_, _*_, _≤_, _<_, suc-le-suc}
+use native.Mathlib.Nat.{zero-lt-suc}
+use native.Mathlib.Omega.{arith}
+use lib.ListN.{length, getD, take, drop, replicate, List·getD-eq-default, length-take}
+use lib.Seq.{getD-take, getD-drop}
+use borrow.Author.Tests.{ltb-true, leb-true, lt-ltb, le-leb}
+use Rattle.lists.specs.Tests.{_and_}
+use Rattle.lists.specs.Lists.{all, flat, pad, Ascending}
+use Rattle.lists.proofs.Cases.{on-below, and-left, and-right, and-both}
+use Rattle.lists.proofs.All.{all-at, all-of}
+use Rattle.lists.proofs.Tab.{length-tab, getD-tab}
+use Rattle.lists.proofs.Maps.{map-length}
+use Rattle.lists.proofs.Memb.{memb-at}
+use Rattle.layout.specs.Content.{Table, vertexNumber, liveVertices, liveHyperedges, isLive, numbered, membersLive, valid}
+use Rattle.layout.specs.Layout.{vertexLimit, hyperedgeLimit, vertexSize, recordSize, limit, vertexAt, hyperedgeAt, vertexCount, hyperedgeCount, hyperedgeWord, countAt, read, vertexWords, hyperedgeWords, words, vertexWord}
+use Rattle.layout.specs.WellFormed.{counted, holdable}
+use Rattle.layout.proofs.Back.{noVertex, noHyperedge}
+use Rattle.layout.proofs.Read.{numbered-ascends, numbered-below}
+use Rattle.frames.specs.Faulty.{isWord}
+use Rattle.frame_laws.proofs.Standing.{wordValues}
+
+-- ---- numbers
+
+-- numbers rise at least as fast as places
+gap : (xs : List ℕ) → Ascending xs → (i d : ℕ) → i + d < length xs → getD xs i 0 + d ≤ getD xs (i + d) 0
+gap xs asc i zero h = let e : i + 0 ≡ i = omega arith in omega (arith, ap (λ (k : ℕ). getD xs k 0) e)
+gap xs asc i (suc d) h =
+    let e : i + suc d ≡ suc (i + d) = omega arith in
+    omega (arith, gap xs asc i d (omega arith), asc (i + d) (suc (i + d)) (omega arith) (omega arith), ap (λ (k : ℕ). getD xs k 0) e)
+
+-- each number, with one for each that follows it, is below the next number
+pub numbered-ahead : (xs : List ℕ) (next i : ℕ) → numbered xs next ≡ true → i < length xs → getD xs i 0 + (length xs - i) ≤ next
+numbered-ahead xs next i e h =
+    let d : ℕ = length xs - suc i in
+    omega (arith, gap xs (numbered-ascends xs next e) i d (omega arith), numbered-below xs next e (i + d) (omega arith))
+
+pub numbered-room : (xs : List ℕ) (next : ℕ) → numbered xs next ≡ true → length xs ≤ next
+numbered-room xs next e = on-below 0 (length xs) (λ h. omega (arith, numbered-ahead xs next 0 e h)) (λ h. omega arith)
+
+-- ---- what a table can hold
+
+pub record Held (t : Table) : Type 0 where
+  pub vertices-le : length (t .vertices) ≤ vertexLimit
+  pub hyperedges-le : length (t .hyperedges) ≤ hyperedgeLimit
+  pub vertices-numbered : numbered (liveVertices t) (t .nextVertex) ≡ true
+  pub hyperedges-numbered : numbered (liveHyperedges t) (t .nextHyperedge) ≡ true
+  pub counts : (j : ℕ) → j < length (t .hyperedges) → counted limit (getD (t .hyperedges) j noHyperedge) ≡ true
+  pub live : (j : ℕ) → j < length (t .hyperedges) → membersLive (liveVertices t) (getD (t .hyperedges) j noHyperedge) ≡ true
+
+pub held-of : (t : Table) → holdable limit t ≡ true → Held t
+unfolding holdable valid
+held-of t e =
+    let a = and-right _ _ e in let b = and-right _ _ a in let v = and-right _ _ b in
+    record {
+      vertices-le = leb-true _ _ (and-left _ _ e);
+      hyperedges-le = leb-true _ _ (and-left _ _ a);
+      vertices-numbered = and-left _ _ v;
+      hyperedges-numbered = and-left _ _ (and-right _ _ v);
+      counts = λ j h. all-at (counted limit) (t .hyperedges) j noHyperedge (and-left _ _ b) h;
+      live = λ j h. all-at (membersLive (liveVertices t)) (t .hyperedges) j noHyperedge (and-right _ _ (and-right _ _ v)) h;
+    }
+
+pub held-to : (t : Table) → Held t → holdable limit t ≡ true
+unfolding holdable valid
+held-to t d =
+    and-both _ _ (le-leb _ _ (d .vertices-le)) (and-both _ _ (le-leb _ _ (d .hyperedges-le))
+    (and-both _ _ (all-of (counted limit) (t .hyperedges) noHyperedge (d .counts))
+    (and-both _ _ (d .vertices-numbered) (and-both _ _ (d .hyperedges-numbered)
+    (all-of (membersLive (liveVertices t)) (t .hyperedges) noHyperedge (d .live))))))
+
+module _ (t : Table) (d : Held t) where
+  pub members-le : (j : ℕ) → j < length (t .hyperedges) → length (getD (t .hyperedges) j noHyperedge .members) ≤ limit
+  unfolding counted
+  members-le j h = leb-true _ _ (and-right _ _ (d .counts j h))
+
+  members-pos : (j : ℕ) → j < length (t .hyperedges) → 0 < length (getD (t .hyperedges) j noHyperedge .members)
+  unfolding counted
+  members-pos j h = ltb-true _ _ (and-left _ _ (d .counts j h))
+
+  -- no hyperedge without a vertex
+  pub some-vertex : 0 < length (t .hyperedges) → 0 < length (t .vertices)
+  unfolding membersLive
+  some-vertex h =
+      let ms : List ℕ = getD (t .hyperedges) 0 noHyperedge .members in
+      let q = memb-at (getD ms 0 0) (liveVertices t) (all-at (isLive (liveVertices t)) ms 0 0 (d .live 0 h) (members-pos 0 h)) in
+      omega (arith, q .1, map-length vertexNumber (t .vertices))
+
+-- ---- words
+
+pub record Worded (t : Table) : Type 0 where
+  pub next-vertex : t .nextVertex < wordValues
+  pub next-hyperedge : t .nextHyperedge < wordValues
+  pub vertex-number : (i : ℕ) → i < length (t .vertices) → getD (t .vertices) i noVertex .number < wordValues
+  pub vertex-weight : (i : ℕ) → i < length (t .vertices) → getD (t .vertices) i noVertex .weight < wordValues
+  pub hyperedge-number : (j : ℕ) → j < length (t .hyperedges) → getD (t .hyperedges) j noHyperedge .number < wordValues
+  pub hyperedge-weight : (j : ℕ) → j < length (t .hyperedges) → getD (t .hyperedges) j noHyperedge .weight < wordValues
+  pub members : (j : ℕ) → j < length (t .hyperedges) → all isWord (getD (t .hyperedges) j noHyperedge .members) ≡ true
+
+module _ (ws : List ℕ) (a : all isWord ws ≡ true) where
+  word-at : (i : ℕ) → getD ws i 0 < wordValues
+  unfolding isWord
+  word-at i = on-below i (length ws) (λ h. ltb-true _ _ (all-at isWord ws i 0 a h)) (λ h. rw (List·getD-eq-default ws 0 {n = i} h) (omega arith))
+
+  part-words : (c b : ℕ) → all isWord (take c (drop b ws)) ≡ true
+  unfolding isWord
+  part-words c b = all-of isWord (take c (drop b ws)) 0 (λ i h.
+      rw (getD-take c (drop b ws) i 0 (omega (arith, length-take c (drop b ws))), getD-drop b ws i 0) (lt-ltb _ wordValues (word-at (b + i))))
+
+  pub read-worded : Worded (read limit ws)
+  read-worded = record {
+    next-vertex = word-at 0;
+    next-hyperedge = word-at 1;
+    vertex-number = λ i h. rw (getD-tab (vertexAt ws) (vertexCount ws) i noVertex (rw length-tab at h)) (word-at (vertexWord i));
+    vertex-weight = λ i h. rw (getD-tab (vertexAt ws) (vertexCount ws) i noVertex (rw length-tab at h)) (word-at (vertexWord i + 1));
+    hyperedge-number = λ j h. rw (getD-tab (hyperedgeAt limit ws) (hyperedgeCount ws) j noHyperedge (rw length-tab at h)) (word-at (hyperedgeWord limit j));
+    hyperedge-weight = λ j h. rw (getD-tab (hyperedgeAt limit ws) (hyperedgeCount ws) j noHyperedge (rw length-tab at h)) (word-at (hyperedgeWord limit j + 1));
+    members = λ j h. rw (getD-tab (hyperedgeAt limit ws) (hyperedgeCount ws) j noHyperedge (rw length-tab at h)) (part-words (countAt limit ws j) (hyperedgeWord limit j + 3));
+  }
+
+all-join : {A : Type 0} (f : A → Bool) (xs ys : List A) → all f xs ≡ true → all f ys ≡ true → all f (xs ++ ys) ≡ true
+unfolding all
+all-join f [] ys a b = b
+all-join f (x ∷ xs) ys a b = and-both _ _ (and-left _ _ a) (all-join f xs ys (and-right _ _ a) b)
+
+all-flat : {A : Type 0} (f : A → List ℕ) (xs : List A) (d : A) → ((i : ℕ) → i < length xs → all isWord (f (getD xs i d)) ≡ true) → all isWord (flat f xs) ≡ true
+unfolding all flat
+all-flat f [] d h = refl
+all-flat f (x ∷ xs) d h = all-join isWord (f x) (flat f xs) (h zero (zero-lt-suc (length xs))) (all-flat f xs d (λ i l. h (suc i) (suc-le-suc l)))
+
+pub all-none : (k : ℕ) → all isWord (replicate k 0) ≡ true
+unfolding all isWord
+all-none zero = refl
+all-none (suc k) = and-both _ _ refl (all-none k)
+
+padded : (n : ℕ) (xs : List ℕ) → all isWord xs ≡ true → all isWord (pad n xs) ≡ true
+padded n xs a = all-join isWord xs (replicate (n - length xs) 0) a (all-none (n - length xs))
+
+-- the words of a content that fits in words
+pub words-fit : (t : Table) → Held t → Worded t → all isWord (words limit t) ≡ true
+unfolding words all isWord
+words-fit t d w =
+    let head : List ℕ = t .nextVertex ∷ t .nextHyperedge ∷ length (t .vertices) ∷ length (t .hyperedges) ∷ [] in
+    let vs : List ℕ = pad (vertexLimit * vertexSize) (flat vertexWords (t .vertices)) in
+    let es : List ℕ = pad (hyperedgeLimit * recordSize limit) (flat (hyperedgeWords limit) (t .hyperedges)) in
+    all-join isWord (head ++ vs) es (all-join isWord head vs
+    (and-both _ _ (lt-ltb _ wordValues (w .next-vertex)) (and-both _ _ (lt-ltb _ wordValues (w .next-hyperedge))
+    (and-both _ _ (lt-ltb (length (t .vertices)) wordValues (omega (arith, d .vertices-le))) (and-both _ _ (lt-ltb (length (t .hyperedges)) wordValues (omega (arith, d .hyperedges-le))) refl))))
+    (padded (vertexLimit * vertexSize) (flat vertexWords (t .vertices)) (all-flat vertexWords (t .vertices) noVertex (λ i h.
+    and-both _ _ (lt-ltb _ wordValues (w .vertex-number i h)) (and-both _ _ (lt-ltb _ wordValues (w .vertex-weight i h)) refl)))))
+    (padded (hyperedgeLimit * recordSize limit) (flat (hyperedgeWords limit) (t .hyperedges)) (all-flat (hyperedgeWords limit) (t .hyperedges) noHyperedge (λ j h.
+    and-both _ _ (lt-ltb _ wordValues (w .hyperedge-number j h)) (and-both _ _ (lt-ltb _ wordValues (w .hyperedge-weight j h))
+    (and-both _ _ (lt-ltb (length (getD (t .hyperedges) j noHyperedge .members)) wordValues (omega (arith, members-le t d j h)))
+    (padded limit (getD (t .hyperedges) j noHyperedge .members) (w .members j h)))))))

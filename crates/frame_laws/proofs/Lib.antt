@@ -1,0 +1,15 @@
+pub mod Lines
+pub mod Rows
+pub mod Standing
+pub mod Held
+pub mod First
+pub mod Good
+pub mod Written
+pub mod Fill
+pub mod Begun
+pub mod Accepted
+pub mod Faulty
+pub mod Longest
+pub mod Long
+pub mod Document
+pub mod Examples

@@ -1,0 +1,1 @@
+// Laws of frame text. It has no code of its own.
