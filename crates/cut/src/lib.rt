@@ -7,7 +7,7 @@ ghost use Rattle.lists.specs.Tests.{every};
 ghost use Rattle.layout.specs.Content.{liveVertices};
 ghost use Rattle.layout.specs.Layout.{limit, vertexLimit, vertexCount, hyperedgeCount, membersAt, read};
 ghost use Rattle.layout.specs.WellFormed.{Formed};
-ghost use Rattle.layout.specs.Answers.{result, onFormed};
+ghost use Rattle.layout.specs.Answers.{result};
 ghost use Rattle.graph.specs.Reach.{matrix};
 ghost use Rattle.graph.specs.Post.{Reached};
 ghost use Rattle.steps.specs.Matrices.{Holds};
@@ -239,7 +239,8 @@ fn searched_matrix(t: &[u32], m: &mut [u8; 65536])
     together_matrix(t, m);
 }
 
-fn list_cuts(t: &[u32], out: &mut [u32]) -> Answer
+// Lists the cut vertices of a well-formed table, ascending.
+pub fn cut_vertices_formed(t: &[u32], out: &mut [u32]) -> Answer
     requires { ⌜ Formed limit (now t) ⌝ }
     ensures { λ r. ⌜ result r (now (out .exit)) ≡ cutVerticesResult (now (out .entry)) (read limit (now (t .entry))) ⌝ }
 {
@@ -249,14 +250,4 @@ fn list_cuts(t: &[u32], out: &mut [u32]) -> Answer
     let mut cuts = [false; 256];
     judge(&m, n, &mut cuts);
     marks::list_marked(t, &cuts, out)
-}
-
-// Lists the cut vertices, ascending.
-pub fn find_cut_vertices(t: &[u32], out: &mut [u32]) -> Answer
-    ensures { λ r. ⌜ result r (now (out .exit)) ≡ onFormed (now (t .entry)) (now (out .entry)) (cutVerticesResult (now (out .entry))) ⌝ }
-{
-    if !formed::well_formed(t) {
-        return Answer::NotWellFormed;
-    }
-    list_cuts(t, out)
 }

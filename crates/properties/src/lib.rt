@@ -1,4 +1,4 @@
-// Properties: orphans, endpoints, uniform size, inclusions and the profile of nestedness.
+// Properties: orphans, endpoints, uniform size, inclusions, cut vertices and the profile of nestedness.
 ghost use mathlib.Core.Path.{_≡_};
 ghost use mathlib.Core.Bool.{not};
 ghost use mathlib.Core.List.{[]};
@@ -10,6 +10,7 @@ ghost use Rattle.layout.specs.Layout.{limit, vertexLimit, hyperedgeCount, hyper
 ghost use Rattle.layout.specs.WellFormed.{Formed};
 ghost use Rattle.layout.specs.Answers.{result, onFormed, listed};
 ghost use Rattle.marks.specs.Marks.{isMarked, marked};
+ghost use Rattle.cut.specs.Cut.{cutVerticesResult};
 ghost use Rattle.lookups.specs.Lookups.{someOf, with, noMarks, MarkedBy};
 ghost use Rattle.properties.specs.Properties.{counted, twice, uniform};
 ghost use Rattle.properties.specs.Results.{orphanVerticesResult, orphanHyperedgesResult, endpointsResult, uniformResult, inclusionsResult, nestednessResult};
@@ -196,6 +197,16 @@ pub fn get_inclusions(t: &[u32], out: &mut [u32]) -> Answer
         return Answer::NotWellFormed;
     }
     inclusions::list_inclusions(t, out)
+}
+
+// The vertices without which two others, linked through co-membership, no longer are.
+pub fn find_cut_vertices(t: &[u32], out: &mut [u32]) -> Answer
+    ensures { λ r. ⌜ result r (now (out .exit)) ≡ onFormed (now (t .entry)) (now (out .entry)) (cutVerticesResult (now (out .entry))) ⌝ }
+{
+    if !formed::well_formed(t) {
+        return Answer::NotWellFormed;
+    }
+    cut::cut_vertices_formed(t, out)
 }
 
 // A row of size, included and total for each size that some hyperedge has.

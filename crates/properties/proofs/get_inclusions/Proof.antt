@@ -4,23 +4,18 @@ use borrow.Author.Needs.{needs}
 use Rattle.properties.proofs.get_inclusions.Statement.{statement}
 use Rattle.properties.proofs.get_inclusions.Tie as tie
 
--- src/lib.rt:196:9
 well-formed-requires : tie.Need-well-formed-requires
 well-formed-requires c κs = search needs
 
--- src/lib.rt:197:9
 returns : tie.Need-returns
 returns c = search on-unformed
 
--- src/lib.rt:199:5
 list-inclusions-requires : tie.Need-list-inclusions-requires
 list-inclusions-requires c κs = search formed-by
 
--- src/lib.rt:193:1
 same-length : tie.Need-same-length
 same-length c = search needs
 
--- src/lib.rt:193:1
 returns-2 : tie.Need-returns-2
 returns-2 c = search on-formed
 

@@ -4,23 +4,18 @@ use borrow.Author.Needs.{needs}
 use Rattle.properties.proofs.get_nestedness_profile.Statement.{statement}
 use Rattle.properties.proofs.get_nestedness_profile.Tie as tie
 
--- src/lib.rt:206:9
 well-formed-requires : tie.Need-well-formed-requires
 well-formed-requires c κs = search needs
 
--- src/lib.rt:207:9
 returns : tie.Need-returns
 returns c = search on-unformed
 
--- src/lib.rt:209:5
 list-profile-requires : tie.Need-list-profile-requires
 list-profile-requires c κs = search formed-by
 
--- src/lib.rt:203:1
 same-length : tie.Need-same-length
 same-length c = search needs
 
--- src/lib.rt:203:1
 returns-2 : tie.Need-returns-2
 returns-2 c = search on-formed
 

@@ -1,10 +1,10 @@
--- `cut::list_cuts` meets its contract. Assumes nothing.
+-- `cut::cut_vertices_formed` meets its contract. Assumes nothing.
 use mathlib.Core.Bool.{Bool, false}
 use lib.ListN.{length-replicate}
 use Rattle.cut.proofs.Cuts.{mirrored-by, cuts-listed}
 use borrow.Author.Needs.{needs}
-use Rattle.cut.proofs.list_cuts.Statement.{statement}
-use Rattle.cut.proofs.list_cuts.Tie as tie
+use Rattle.cut.proofs.cut_vertices_formed.Statement.{statement}
+use Rattle.cut.proofs.cut_vertices_formed.Tie as tie
 
 vertex-count-requires : tie.Need-vertex-count-requires
 vertex-count-requires c κs = search needs
@@ -24,8 +24,8 @@ same-length c = search needs
 returns : tie.Need-returns
 returns c = search cuts-listed
 
-pub list-cuts-spec : {M : Type 1} → statement M
-list-cuts-spec =
+pub cut-vertices-formed-spec : {M : Type 1} → statement M
+cut-vertices-formed-spec =
     tie.close
     (tie.spec
     vertex-count-requires
