@@ -12,8 +12,18 @@ pub enum HypergraphError<V, HE> {
     HyperedgesInvalidJoin,
     HypergraphContainsCycle,
     NotEnoughVerticesProvided,
-    HyperedgeSplitIndexOutOfBounds { index: HyperedgeIndex, at: usize },
-    HyperedgeInvalidContraction { index: HyperedgeIndex, target: VertexIndex, vertices: Vec<VertexIndex> },
-    HyperedgeVerticesIndexesNotFound { index: HyperedgeIndex, vertices: Vec<VertexIndex> },
+    HyperedgeSplitIndexOutOfBounds {
+        index: HyperedgeIndex,
+        at: usize,
+    },
+    HyperedgeInvalidContraction {
+        index: HyperedgeIndex,
+        target: VertexIndex,
+        vertices: Vec<VertexIndex>,
+    },
+    HyperedgeVerticesIndexesNotFound {
+        index: HyperedgeIndex,
+        vertices: Vec<VertexIndex>,
+    },
     Weight(V),
 }

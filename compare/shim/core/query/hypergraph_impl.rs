@@ -17,19 +17,31 @@ impl<V: VertexTrait, HE: HyperedgeTrait> Hypergraph<V, HE> {
     }
 
     pub fn get_vertex_weight(&self, v: VertexIndex) -> Result<V, HypergraphError<V, HE>> {
-        self.vertices.get(&v).map(|(w, _)| *w).ok_or(HypergraphError::VertexIndexNotFound(v))
+        self.vertices
+            .get(&v)
+            .map(|(w, _)| *w)
+            .ok_or(HypergraphError::VertexIndexNotFound(v))
     }
 
     pub fn get_hyperedge_weight(&self, e: HyperedgeIndex) -> Result<HE, HypergraphError<V, HE>> {
-        self.hyperedges.get(&e).map(|(_, w)| *w).ok_or(HypergraphError::HyperedgeIndexNotFound(e))
+        self.hyperedges
+            .get(&e)
+            .map(|(_, w)| *w)
+            .ok_or(HypergraphError::HyperedgeIndexNotFound(e))
     }
 
     pub fn get_vertex_hyperedges(&self, v: VertexIndex) -> Result<Vec<HyperedgeIndex>, HypergraphError<V, HE>> {
-        self.vertices.get(&v).map(|(_, set)| set.iter().copied().collect()).ok_or(HypergraphError::VertexIndexNotFound(v))
+        self.vertices
+            .get(&v)
+            .map(|(_, set)| set.iter().copied().collect())
+            .ok_or(HypergraphError::VertexIndexNotFound(v))
     }
 
     pub fn get_hyperedge_vertices(&self, e: HyperedgeIndex) -> Result<Vec<VertexIndex>, HypergraphError<V, HE>> {
-        self.hyperedges.get(&e).map(|(list, _)| list.clone()).ok_or(HypergraphError::HyperedgeIndexNotFound(e))
+        self.hyperedges
+            .get(&e)
+            .map(|(list, _)| list.clone())
+            .ok_or(HypergraphError::HyperedgeIndexNotFound(e))
     }
 }
 

@@ -140,11 +140,19 @@ pub trait HypergraphQuery<V: VertexTrait, HE: HyperedgeTrait> {
         properties::get_nestedness_profile(self)
     }
 
-    fn get_dijkstra_connections(&self, from: VertexIndex, to: VertexIndex) -> Answer<Vec<(VertexIndex, Option<HyperedgeIndex>)>, V, HE> {
+    fn get_dijkstra_connections(
+        &self,
+        from: VertexIndex,
+        to: VertexIndex,
+    ) -> Answer<Vec<(VertexIndex, Option<HyperedgeIndex>)>, V, HE> {
         paths::get_dijkstra_connections(self, from, to)
     }
 
-    fn get_dijkstra_connections_with_cost(&self, from: VertexIndex, to: VertexIndex) -> Answer<(usize, Vec<(VertexIndex, Option<HyperedgeIndex>)>), V, HE> {
+    fn get_dijkstra_connections_with_cost(
+        &self,
+        from: VertexIndex,
+        to: VertexIndex,
+    ) -> Answer<(usize, Vec<(VertexIndex, Option<HyperedgeIndex>)>), V, HE> {
         paths::get_dijkstra_connections_with_cost(self, from, to)
     }
 
