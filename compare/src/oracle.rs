@@ -1,6 +1,6 @@
 //! The Rust's answers, as answer number, detail and words: what the rules' domain says they are to be compared by.
 use hypergraph::errors::HypergraphError;
-use hypergraph::{HyperedgeIndex, Hypergraph, HypergraphQuery, VertexIndex};
+use hypergraph::{HyperedgeIndex, Hypergraph, VertexIndex};
 use vaultsorrel::{NO_HYPEREDGE, TABLE_WORDS};
 
 pub type Graph = Hypergraph<usize, usize>;
@@ -130,9 +130,4 @@ pub fn words(graph: &Graph) -> Vec<u32> {
         record[3..3 + members.len()].copy_from_slice(&members);
     }
     table
-}
-
-/// Every query of one vertex, of a pair, of nothing: by name.
-pub fn is_acyclic(graph: &Graph) -> Reply {
-    done(graph.is_acyclic().into())
 }
