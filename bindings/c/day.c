@@ -1,0 +1,27 @@
+/* A day at the bench, from C: prints the sort, or why there is none. */
+#include <stdio.h>
+#include "vaultsorrel.h"
+
+int main(void) {
+    static uint32_t table[VS_TABLE_WORDS];
+    uint32_t sorted[8];
+
+    for (uint32_t weight = 0; weight < 5; weight++)
+        vs_add_vertex(table, VS_TABLE_WORDS, weight);
+    vs_add_hyperedge(table, VS_TABLE_WORDS, (const uint32_t[]){0, 1, 2}, 3, 4);
+    vs_add_hyperedge(table, VS_TABLE_WORDS, (const uint32_t[]){0, 3}, 2, 1);
+    vs_add_hyperedge(table, VS_TABLE_WORDS, (const uint32_t[]){3, 2}, 2, 2);
+
+    vs_reply r = vs_topological_sort(table, VS_TABLE_WORDS, sorted, 8);
+    if (r.number != 0) {
+        printf("refused %u\n", r.number);
+        return 1;
+    }
+    for (uint64_t i = 0; i < r.detail; i++)
+        printf("%u\n", sorted[i]);
+
+    vs_add_hyperedge(table, VS_TABLE_WORDS, (const uint32_t[]){2, 0}, 2, 1);
+    r = vs_topological_sort(table, VS_TABLE_WORDS, sorted, 8);
+    printf("with a step from 2 back to 0: refused %u\n", r.number);
+    return r.number == 9 ? 0 : 1;
+}

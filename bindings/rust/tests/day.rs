@@ -1,0 +1,37 @@
+//! A day at the bench, from Rust.
+use vaultsorrel::*;
+
+#[test]
+fn a_table_is_filled_asked_and_refused() {
+    let mut table = vec![0; TABLE_WORDS];
+    for number in 0..5 {
+        assert_eq!(add_vertex(&mut table, 10 + number), Ok(number.into()));
+    }
+    assert_eq!(add_hyperedge(&mut table, &[0, 1, 2], 4), Ok(0));
+    assert_eq!(add_hyperedge(&mut table, &[0, 3], 1), Ok(1));
+    assert_eq!(add_hyperedge(&mut table, &[3, 2], 2), Ok(2));
+
+    let mut out = [7; 8];
+    assert_eq!(get_bfs(&table, Vertex(0), &mut out), Ok(4));
+    assert_eq!(out, [0, 1, 3, 2, 7, 7, 7, 7]);
+
+    let before = table.clone();
+    assert_eq!(add_hyperedge(&mut table, &[0, 9, 8], 1), Err(Refusal::VertexNotLive(Vertex(9))));
+    assert_eq!(add_hyperedge(&mut table, &[], 6), Err(Refusal::NoMembers(6)));
+    assert_eq!(update_hyperedge_vertices(&mut table, Hyperedge(9), &[]), Err(Refusal::NoMembers(9)));
+    assert_eq!(remove_hyperedge(&mut table, Hyperedge(9)), Err(Refusal::HyperedgeNotLive(Hyperedge(9))));
+    assert_eq!(table, before);
+
+    let mut short = [7; 3];
+    assert_eq!(get_bfs(&table, Vertex(0), &mut short), Err(Refusal::NoRoom(4)));
+    assert_eq!(short, [7; 3]);
+
+    assert_eq!(remove_vertex(&mut table, Vertex(0)), Ok(0));
+    assert_eq!(remove_vertex(&mut table, Vertex(3)), Ok(0));
+    assert_eq!(get_full_vertex_hyperedges(&table, Vertex(2), &mut out), Ok(5));
+    assert_eq!(out[..5], [2, 1, 2, 1, 2]);
+
+    assert_eq!(is_empty(&[1, 2, 3]), Err(Refusal::NotWellFormed));
+    assert_eq!(clear(&mut table), Ok(0));
+    assert_eq!(is_empty(&table), Ok(1));
+}

@@ -1,0 +1,3 @@
+mod add_vertex;
+mod merge_vertices;
+mod remove_vertex;

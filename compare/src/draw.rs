@@ -1,0 +1,83 @@
+//! Random edits, from a seed.
+use hypergraph::HypergraphQuery;
+
+use crate::calls::{Both, Edit};
+
+pub struct Draw {
+    state: u64,
+}
+
+impl Draw {
+    pub fn new(seed: u64) -> Self {
+        Draw {
+            state: seed.wrapping_mul(0x9e37_79b9_7f4a_7c15) | 1,
+        }
+    }
+
+    pub fn word(&mut self) -> u64 {
+        self.state ^= self.state << 13;
+        self.state ^= self.state >> 7;
+        self.state ^= self.state << 17;
+        self.state
+    }
+
+    pub fn below(&mut self, n: u32) -> u32 {
+        if n == 0 {
+            0
+        } else {
+            ((self.word() >> 16) % u64::from(n)) as u32
+        }
+    }
+
+    /// Mostly a live vertex, now and then any number.
+    pub fn live_vertex(&mut self, both: &Both) -> u32 {
+        let mut live = both.graph.vertex_indices().expect("a list");
+        live.sort();
+        if live.is_empty() || self.below(12) == 0 {
+            return self.below(20);
+        }
+        live[self.below(live.len() as u32) as usize].0 as u32
+    }
+
+    pub fn live_hyperedge(&mut self, both: &Both) -> u32 {
+        let mut live = both.graph.hyperedge_indices().expect("a list");
+        live.sort();
+        if live.is_empty() || self.below(12) == 0 {
+            return self.below(20);
+        }
+        live[self.below(live.len() as u32) as usize].0 as u32
+    }
+
+    fn members(&mut self, both: &Both, longest: u32) -> Vec<u32> {
+        let n = if self.below(20) == 0 { 0 } else { 1 + self.below(longest) };
+        (0..n).map(|_| self.live_vertex(both)).collect()
+    }
+
+    pub fn edit(&mut self, both: &Both, fresh: &mut u32) -> Edit {
+        match self.below(20) {
+            0..=7 => Edit::AddHyperedge(self.members(both, 6), self.below(5)),
+            8..=10 => {
+                let members = self.members(both, 6);
+                Edit::UpdateHyperedgeVertices(self.live_hyperedge(both), members)
+            }
+            11..=13 => Edit::RemoveHyperedge(self.live_hyperedge(both)),
+            14..=15 => Edit::RemoveVertex(self.live_vertex(both)),
+            16..=18 => {
+                *fresh += 1;
+                Edit::AddVertex(*fresh)
+            }
+            _ if self.below(30) == 0 => Edit::Clear,
+            _ => Edit::AddHyperedge(self.members(both, 32), self.below(3)),
+        }
+    }
+
+    /// A hyperedge of exactly that many members; ascending ones where no closed walk may come.
+    pub fn addition(&mut self, n: u32, members: u32, acyclic: bool) -> Edit {
+        let mut list: Vec<u32> = (0..members).map(|_| self.below(n)).collect();
+        if acyclic {
+            list.sort_unstable();
+            list.dedup();
+        }
+        Edit::AddHyperedge(list, self.below(1000))
+    }
+}

@@ -1,0 +1,292 @@
+//! Runs the proved code and the Rust on the same inputs and prints, for each function, how many answers were compared and how many
+//! differed; for each difference the smallest input that was found.
+mod calls;
+mod draw;
+mod oracle;
+
+use std::collections::BTreeMap;
+
+use calls::{Both, Edit, Query, name};
+use draw::Draw;
+
+#[derive(Default)]
+struct Counts {
+    compared: u64,
+    differing: u64,
+}
+
+struct Run {
+    counts: BTreeMap<String, Counts>,
+    shown: usize,
+}
+
+/// The table that the edits build, both sides.
+fn built(edits: &[Edit]) -> Both {
+    let mut both = Both::new();
+    for edit in edits {
+        both.edit(edit);
+    }
+    both
+}
+
+/// Leaves out edits as long as the query still differs.
+fn smallest(mut edits: Vec<Edit>, query: &Query) -> Vec<Edit> {
+    let mut at = 0;
+    while at < edits.len() {
+        let mut fewer = edits.clone();
+        fewer.remove(at);
+        let mut both = built(&fewer);
+        let (a, b) = (both.ours(query), both.rust(query));
+        if both.agree(query, &a, &b) {
+            at += 1;
+        } else {
+            edits = fewer;
+            at = 0;
+        }
+    }
+    edits
+}
+
+impl Run {
+    fn count(&mut self, name: String, differs: bool) {
+        let counts = self.counts.entry(name).or_default();
+        counts.compared += 1;
+        counts.differing += u64::from(differs);
+    }
+
+    fn show(&mut self, text: impl FnOnce() -> String) {
+        if self.shown < 20 {
+            println!("{}", text());
+        }
+        self.shown += 1;
+    }
+
+    fn edit(&mut self, both: &mut Both, edits: &mut Vec<Edit>, edit: Edit) {
+        if !both.compared(&edit) {
+            return;
+        }
+        let (a, b, same) = both.edit(&edit);
+        let differs = a != b || !same;
+        self.count(name(&edit), differs);
+        edits.push(edit);
+        if differs {
+            self.show(|| format!("differs: {edits:?}\n  ours {a:?}\n  Rust {b:?}, tables the same: {same}"));
+        }
+    }
+
+    fn query(&mut self, both: &mut Both, edits: &[Edit], query: Query) {
+        let (a, b) = (both.ours(&query), both.rust(&query));
+        let differs = !both.agree(&query, &a, &b);
+        self.count(name(&query), differs);
+        if differs {
+            let least = smallest(edits.to_vec(), &query);
+            let mut both = built(&least);
+            let (a, b) = (both.ours(&query), both.rust(&query));
+            self.show(|| format!("differs: {query:?} after {least:?}\n  ours {a:?}\n  Rust {b:?}"));
+        }
+    }
+
+    /// Queries of the whole table.
+    fn whole(&mut self, both: &mut Both, edits: &[Edit]) {
+        for query in [
+            Query::IsEmpty,
+            Query::IsConnected,
+            Query::IsAcyclic,
+            Query::TopologicalSort,
+            Query::StronglyConnectedComponents,
+            Query::ConnectedComponents,
+            Query::GetOrphanVertices,
+            Query::GetOrphanHyperedges,
+            Query::GetEndpoints,
+            Query::FindCutVertices,
+        ] {
+            self.query(both, edits, query);
+        }
+    }
+
+    /// Queries of the whole table that take the Rust long on a full one.
+    fn slow(&mut self, both: &mut Both, edits: &[Edit]) {
+        for query in [Query::GetTransitiveClosure, Query::GetInclusions, Query::GetNestednessProfile] {
+            self.query(both, edits, query);
+        }
+    }
+
+    fn of_vertex(&mut self, both: &mut Both, edits: &[Edit], v: u32) {
+        for query in [
+            Query::GetAdjacentVerticesFrom(v),
+            Query::GetAdjacentVerticesTo(v),
+            Query::GetFullAdjacentVerticesFrom(v),
+            Query::GetFullAdjacentVerticesTo(v),
+            Query::GetVertexDegreeIn(v),
+            Query::GetVertexDegreeOut(v),
+            Query::GetFullVertexHyperedges(v),
+            Query::GetVertexNeighborhood(v),
+            Query::GetBfs(v),
+            Query::GetDfs(v),
+            Query::GetDijkstraFrom(v),
+        ] {
+            self.query(both, edits, query);
+        }
+    }
+
+    fn of_pair(&mut self, both: &mut Both, edits: &[Edit], x: u32, y: u32) {
+        for query in [
+            Query::GetHyperedgesConnecting(x, y),
+            Query::IsReachable(x, y),
+            Query::GetDijkstraConnectionsWithCost(x, y),
+        ] {
+            self.query(both, edits, query);
+        }
+    }
+
+    fn of_weight(&mut self, both: &mut Both, edits: &[Edit], w: u32) {
+        for query in [
+            Query::FindHyperedgesByWeight(w),
+            Query::ContainsVertex(w),
+            Query::GetVertexIndex(w),
+            Query::IsKUniform(w as usize),
+        ] {
+            self.query(both, edits, query);
+        }
+    }
+
+    /// Every query, of vertices and hyperedges below the bounds and one beyond.
+    fn everything(&mut self, both: &mut Both, edits: &[Edit], vertices: u32, hyperedges: u32) {
+        self.whole(both, edits);
+        self.slow(both, edits);
+        for x in 0..=vertices {
+            self.of_vertex(both, edits, x);
+            for y in 0..=vertices {
+                self.of_pair(both, edits, x, y);
+            }
+        }
+        for w in 0..4 {
+            self.of_weight(both, edits, w);
+        }
+        for a in 0..=hyperedges {
+            self.query(both, edits, Query::GetHyperedgesIntersections(vec![a]));
+            for b in 0..=hyperedges {
+                self.query(both, edits, Query::GetHyperedgesIntersections(vec![a, b]));
+            }
+        }
+        for seed in 0..3 {
+            self.query(both, edits, Query::RandomWalk(0, 6, seed));
+        }
+    }
+
+    /// Every table of up to 3 vertices and up to 2 hyperedges with lists of up to 3 members and weights 0 to 2.
+    fn small(&mut self) {
+        for n in 0..=3 {
+            let lists = all_lists(n, 3);
+            let start: Vec<Edit> = (0..n).map(|v| Edit::AddVertex(v + 1)).collect();
+            self.small_table(&start, n, 0);
+            for a in &lists {
+                for weight in [0, 2] {
+                    let one: Vec<Edit> = start.iter().cloned().chain([Edit::AddHyperedge(a.clone(), weight)]).collect();
+                    self.small_table(&one, n, 1);
+                    for b in &lists {
+                        let two: Vec<Edit> = one.iter().cloned().chain([Edit::AddHyperedge(b.clone(), 1)]).collect();
+                        self.small_table(&two, n, 2);
+                    }
+                }
+            }
+        }
+    }
+
+    fn small_table(&mut self, edits: &[Edit], vertices: u32, hyperedges: u32) {
+        let mut both = Both::new();
+        let mut done = Vec::new();
+        for edit in edits {
+            self.edit(&mut both, &mut done, edit.clone());
+        }
+        self.everything(&mut both, &done, vertices, hyperedges);
+    }
+
+    /// A long sequence of random edits on a table of about n vertices, the tables compared after each, with some queries.
+    fn sequence(&mut self, draw: &mut Draw, n: u32, edits_to_make: usize) {
+        let mut both = Both::new();
+        let mut edits = Vec::new();
+        for weight in 0..n {
+            self.edit(&mut both, &mut edits, Edit::AddVertex(1000 + weight));
+        }
+        let mut fresh = 1000 + n;
+        for _ in 0..edits_to_make {
+            let edit = draw.edit(&both, &mut fresh);
+            self.edit(&mut both, &mut edits, edit);
+            let v = draw.live_vertex(&both);
+            let w = draw.live_vertex(&both);
+            self.of_vertex(&mut both, &edits, v);
+            self.of_pair(&mut both, &edits, v, w);
+            self.of_weight(&mut both, &edits, draw.below(6));
+            let es: Vec<u32> = (0..draw.below(4)).map(|_| draw.live_hyperedge(&both)).collect();
+            self.query(&mut both, &edits, Query::GetHyperedgesIntersections(es));
+            self.whole(&mut both, &edits);
+            self.slow(&mut both, &edits);
+        }
+    }
+
+    /// A table built by additions alone, with walks.
+    fn additions(&mut self, draw: &mut Draw, n: u32, m: u32, members: u32, acyclic: bool) -> Both {
+        let mut both = Both::new();
+        let mut edits = Vec::new();
+        for v in 0..n {
+            self.edit(&mut both, &mut edits, Edit::AddVertex(7 * v + 3));
+        }
+        for _ in 0..m {
+            let edit = draw.addition(n, members, acyclic);
+            self.edit(&mut both, &mut edits, edit);
+        }
+        self.whole(&mut both, &edits);
+        for _ in 0..12 {
+            let (v, w) = (draw.below(n + 1), draw.below(n + 1));
+            self.of_vertex(&mut both, &edits, v);
+            self.of_pair(&mut both, &edits, v, w);
+            let steps = draw.below(200) as usize;
+            self.query(&mut both, &edits, Query::RandomWalk(v, steps, draw.word()));
+        }
+        self.slow(&mut both, &edits);
+        both
+    }
+}
+
+/// Every list of one up to `longest` members below n.
+fn all_lists(n: u32, longest: usize) -> Vec<Vec<u32>> {
+    let mut lists: Vec<Vec<u32>> = Vec::new();
+    let mut last = vec![Vec::new()];
+    for _ in 0..longest {
+        last = last
+            .iter()
+            .flat_map(|l: &Vec<u32>| (0..n).map(move |v| [l.clone(), vec![v]].concat()))
+            .collect();
+        lists.extend(last.clone());
+    }
+    lists
+}
+
+fn main() {
+    let seed = std::env::args().nth(1).and_then(|s| s.parse().ok()).unwrap_or(1);
+    let mut draw = Draw::new(seed);
+    let mut run = Run {
+        counts: BTreeMap::new(),
+        shown: 0,
+    };
+    run.small();
+    for round in 0..60 {
+        run.sequence(&mut draw, 3 + round % 12, 150);
+    }
+    for round in 0..200 {
+        run.additions(&mut draw, 2 + round % 14, 1 + round % 11, 2 + round % 6, round % 3 == 0);
+    }
+    for acyclic in [false, true] {
+        run.additions(&mut draw, 256, 192, 32, acyclic);
+    }
+    println!("{:<42} {:>12} {:>10}", "function", "compared", "differing");
+    let (mut compared, mut differing) = (0, 0);
+    for (name, counts) in &run.counts {
+        println!("{:<42} {:>12} {:>10}", name, counts.compared, counts.differing);
+        compared += counts.compared;
+        differing += counts.differing;
+    }
+    println!("{:<42} {:>12} {:>10}", "all", compared, differing);
+    std::process::exit(i32::from(differing != 0));
+}

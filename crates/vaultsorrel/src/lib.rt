@@ -1,0 +1,206 @@
+// The C interface: each function calls the entry point of its name and gives its answer as number and detail.
+ghost use mathlib.Core.Path.{_≡_};
+ghost use mathlib.Core.List.{[]};
+ghost use mathlib.Core.Bool.{true, false};
+ghost use Rattle.layout.specs.Answers.{onFormed};
+ghost use Rattle.edits.specs.Results.{addVertexResult, addHyperedgeResult, updateResult, removeVertexResult, removeHyperedgeResult, clearResult, emptyResult};
+ghost use Rattle.vaultsorrel.specs.Replies.{replied};
+ghost use Rattle.lookups.specs.Results.{relatedResult, degreeResult, connectingResult, weighingResult, fullHyperedgesResult, containsResult, vertexIndexResult};
+ghost use Rattle.lookups.specs.declared.Relation.the-variants.{From, To, Around};
+ghost use Rattle.traversal.specs.Traversal.{bfsResult, reachableResult};
+ghost use Rattle.walk.specs.Walk.{walkResult};
+ghost use Rattle.frames.specs.Frames.{writeResult};
+use layout::HyperedgeIndex;
+use layout::Reply;
+use layout::VertexIndex;
+
+// ---- Edits
+
+// Adds a vertex with the next number, which the answer tells.
+#[no_mangle]
+pub extern "C" fn vs_add_vertex(t: &mut [u32], weight: u32) -> Reply
+    ensures { λ r. ⌜ replied r (now (t .exit)) ≡ onFormed (now (t .entry)) (now (t .entry)) (addVertexResult weight (now (t .entry))) ⌝ }
+{
+    layout::reply_of(edits::add_vertex::add_vertex(t, weight))
+}
+
+// Adds a hyperedge with the next number, or finds the first identical one; the answer tells the number.
+#[no_mangle]
+pub extern "C" fn vs_add_hyperedge(t: &mut [u32], members: &[u32], weight: u32) -> Reply
+    ensures { λ r. ⌜ replied r (now (t .exit)) ≡ onFormed (now (t .entry)) (now (t .entry)) (addHyperedgeResult (now (members .entry)) weight (now (t .entry))) ⌝ }
+{
+    layout::reply_of(edits::add_hyperedge::add_hyperedge(t, members, weight))
+}
+
+// Gives the hyperedge the new member list; its weight stays.
+#[no_mangle]
+pub extern "C" fn vs_update_hyperedge_vertices(
+    t: &mut [u32],
+    e: HyperedgeIndex,
+    members: &[u32],
+) -> Reply
+    ensures { λ r. ⌜ replied r (now (t .exit)) ≡ onFormed (now (t .entry)) (now (t .entry)) (updateResult (e .0) (now (members .entry)) (now (t .entry))) ⌝ }
+{
+    layout::reply_of(edits::update_hyperedge_vertices::update_hyperedge_vertices(t, e, members))
+}
+
+#[no_mangle]
+pub extern "C" fn vs_remove_vertex(t: &mut [u32], v: VertexIndex) -> Reply
+    ensures { λ r. ⌜ replied r (now (t .exit)) ≡ onFormed (now (t .entry)) (now (t .entry)) (removeVertexResult (v .0) (now (t .entry))) ⌝ }
+{
+    layout::reply_of(edits::remove_vertex::remove_vertex(t, v))
+}
+
+#[no_mangle]
+pub extern "C" fn vs_remove_hyperedge(t: &mut [u32], e: HyperedgeIndex) -> Reply
+    ensures { λ r. ⌜ replied r (now (t .exit)) ≡ onFormed (now (t .entry)) (now (t .entry)) (removeHyperedgeResult (e .0) (now (t .entry))) ⌝ }
+{
+    layout::reply_of(edits::remove_hyperedge::remove_hyperedge(t, e))
+}
+
+// Zeroes every word.
+#[no_mangle]
+pub extern "C" fn vs_clear(t: &mut [u32]) -> Reply
+    ensures { λ r. ⌜ replied r (now (t .exit)) ≡ clearResult (now (t .entry)) ⌝ }
+{
+    layout::reply_of(edits::hypergraph::clear(t))
+}
+
+// Whether no vertex is live: then no hyperedge is either.
+#[no_mangle]
+pub extern "C" fn vs_is_empty(t: &[u32]) -> Reply
+    ensures { λ r. ⌜ replied r [] ≡ onFormed (now (t .entry)) [] emptyResult ⌝ }
+{
+    layout::reply_of(edits::hypergraph::is_empty(t))
+}
+
+// ---- Lookups
+
+// The vertices that a step from the vertex leads to.
+#[no_mangle]
+pub extern "C" fn vs_get_adjacent_vertices_from(t: &[u32], v: VertexIndex, out: &mut [u32]) -> Reply
+    ensures { λ r. ⌜ replied r (now (out .exit)) ≡ onFormed (now (t .entry)) (now (out .entry)) (relatedResult From (v .0) (now (out .entry))) ⌝ }
+{
+    layout::reply_of(lookups::get_adjacent_vertices_from(t, v, out))
+}
+
+// The vertices from which a step leads to the vertex.
+#[no_mangle]
+pub extern "C" fn vs_get_adjacent_vertices_to(t: &[u32], v: VertexIndex, out: &mut [u32]) -> Reply
+    ensures { λ r. ⌜ replied r (now (out .exit)) ≡ onFormed (now (t .entry)) (now (out .entry)) (relatedResult To (v .0) (now (out .entry))) ⌝ }
+{
+    layout::reply_of(lookups::get_adjacent_vertices_to(t, v, out))
+}
+
+// The places at which the vertex is stepped to.
+#[no_mangle]
+pub extern "C" fn vs_get_vertex_degree_in(t: &[u32], v: VertexIndex) -> Reply
+    ensures { λ r. ⌜ replied r [] ≡ onFormed (now (t .entry)) [] (degreeResult true (v .0)) ⌝ }
+{
+    layout::reply_of(lookups::get_vertex_degree_in(t, v))
+}
+
+// The places at which the vertex is stepped from.
+#[no_mangle]
+pub extern "C" fn vs_get_vertex_degree_out(t: &[u32], v: VertexIndex) -> Reply
+    ensures { λ r. ⌜ replied r [] ≡ onFormed (now (t .entry)) [] (degreeResult false (v .0)) ⌝ }
+{
+    layout::reply_of(lookups::get_vertex_degree_out(t, v))
+}
+
+// The hyperedges that step from one vertex to another, once for each place. The second vertex need not be live.
+#[no_mangle]
+pub extern "C" fn vs_get_hyperedges_connecting(
+    t: &[u32],
+    from: VertexIndex,
+    to: VertexIndex,
+    out: &mut [u32],
+) -> Reply
+    ensures { λ r. ⌜ replied r (now (out .exit)) ≡ onFormed (now (t .entry)) (now (out .entry)) (connectingResult (from .0) (to .0) (now (out .entry))) ⌝ }
+{
+    layout::reply_of(lookups::get_hyperedges_connecting(t, from, to, out))
+}
+
+// The hyperedges of a weight.
+#[no_mangle]
+pub extern "C" fn vs_find_hyperedges_by_weight(t: &[u32], weight: u32, out: &mut [u32]) -> Reply
+    ensures { λ r. ⌜ replied r (now (out .exit)) ≡ onFormed (now (t .entry)) (now (out .entry)) (weighingResult weight (now (out .entry))) ⌝ }
+{
+    layout::reply_of(lookups::find_hyperedges_by_weight(t, weight, out))
+}
+
+// The lists that hold the vertex, each as length and members.
+#[no_mangle]
+pub extern "C" fn vs_get_full_vertex_hyperedges(t: &[u32], v: VertexIndex, out: &mut [u32]) -> Reply
+    ensures { λ r. ⌜ replied r (now (out .exit)) ≡ onFormed (now (t .entry)) (now (out .entry)) (fullHyperedgesResult (v .0) (now (out .entry))) ⌝ }
+{
+    layout::reply_of(lookups::get_full_vertex_hyperedges(t, v, out))
+}
+
+// Whether a vertex has the weight.
+#[no_mangle]
+pub extern "C" fn vs_contains_vertex(t: &[u32], weight: u32) -> Reply
+    ensures { λ r. ⌜ replied r [] ≡ onFormed (now (t .entry)) [] (containsResult weight) ⌝ }
+{
+    layout::reply_of(lookups::contains_vertex(t, weight))
+}
+
+// The vertices that stand with the vertex in some list.
+#[no_mangle]
+pub extern "C" fn vs_get_vertex_neighborhood(t: &[u32], v: VertexIndex, out: &mut [u32]) -> Reply
+    ensures { λ r. ⌜ replied r (now (out .exit)) ≡ onFormed (now (t .entry)) (now (out .entry)) (relatedResult Around (v .0) (now (out .entry))) ⌝ }
+{
+    layout::reply_of(lookups::get_vertex_neighborhood(t, v, out))
+}
+
+// The vertices of a weight.
+#[no_mangle]
+pub extern "C" fn vs_get_vertex_index(t: &[u32], weight: u32, out: &mut [u32]) -> Reply
+    ensures { λ r. ⌜ replied r (now (out .exit)) ≡ onFormed (now (t .entry)) (now (out .entry)) (vertexIndexResult weight (now (out .entry))) ⌝ }
+{
+    layout::reply_of(lookups::get_vertex_index(t, weight, out))
+}
+
+// ---- Traversal
+
+// Lists what is reached from v, breadth first, smallest neighbour first.
+#[no_mangle]
+pub extern "C" fn vs_get_bfs(t: &[u32], v: VertexIndex, out: &mut [u32]) -> Reply
+    ensures { λ r. ⌜ replied r (now (out .exit)) ≡ onFormed (now (t .entry)) (now (out .entry)) (bfsResult (v .0) (now (out .entry))) ⌝ }
+{
+    layout::reply_of(traversal::get_bfs(t, v, out))
+}
+
+// Whether `to` is reached from `from` by a walk along steps, of no step or more: 1 or 0.
+#[no_mangle]
+pub extern "C" fn vs_is_reachable(t: &[u32], from: VertexIndex, to: VertexIndex) -> Reply
+    ensures { λ r. ⌜ replied r [] ≡ onFormed (now (t .entry)) [] (reachableResult (from .0) (to .0)) ⌝ }
+{
+    layout::reply_of(traversal::is_reachable(t, from, to))
+}
+
+// ---- The walk
+
+// The start and one vertex for each step.
+#[no_mangle]
+pub extern "C" fn vs_random_walk(
+    t: &[u32],
+    start: VertexIndex,
+    steps: usize,
+    seed: u64,
+    out: &mut [u32],
+) -> Reply
+    ensures { λ r. ⌜ replied r (now (out .exit)) ≡ onFormed (now (t .entry)) (now (out .entry)) (walkResult (start .0) steps seed (now (out .entry))) ⌝ }
+{
+    layout::reply_of(walk::random_walk(t, start, steps, seed, out))
+}
+
+// ---- Frames
+
+// Writes the table's frame text from the front of the lent bytes.
+#[no_mangle]
+pub extern "C" fn vs_write_frames(t: &[u32], text: &mut [u8]) -> Reply
+    ensures { λ r. ⌜ replied r (now (text .exit)) ≡ onFormed (now (t .entry)) (now (text .entry)) (writeResult (now (text .entry))) ⌝ }
+{
+    layout::reply_of(frames::write_frames(t, text))
+}
