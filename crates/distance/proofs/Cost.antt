@@ -10,7 +10,7 @@ use lib.ListN.{length, getD, set, length-set}
 use lib.Seq.{set-getD}
 use borrow.Author.Tests.{eq-eqb, ne-eqb, lt-ltb, le-ltb}
 use Rattle.distance.proofs.Labels.{live-le, live-more, labels-more, shortest}
-use Rattle.distance.specs.Labels.{relM, relD, Relaxed, Labels, live, Best, Shortest}
+use Rattle.distance.specs.Labels.{relM, relD, Relaxed, Labels, live, Nearest, Shortest}
 use Rattle.lists.proofs.Cases.{clash}
 use Rattle.lists.proofs.Store.{store-more, store-rest}
 use Rattle.distance.specs.Cost.{One, Part, Search}
@@ -98,7 +98,7 @@ module _ {E : ℕ → ℕ → Bool} {W : ℕ → ℕ → ℕ} {n s : ℕ} {m d :
       pub search-less : live n m′ < live n m
       search-less = omega (arith, fewer)
 
-      pub search-more : {u′ : ℕ} → Best n m′ d′ n u′ → Search E W n s m′ d′ u′
+      pub search-more : {u′ : ℕ} → Nearest n m′ d′ n u′ → Search E W n s m′ d′ u′
       search-more b =
           let e : (n - live n m) * 281474976710656 + 281474976710656 ≡ (n - live n m′) * 281474976710656 = omega (arith, fewer, live-le n m) in
           let f : suc (n - live n m) ≡ n - live n m′ = omega (arith, fewer, live-le n m) in

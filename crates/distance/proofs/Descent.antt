@@ -11,7 +11,8 @@ use lib.ListN.{length, getD, take, set, length-set}
 use lib.Seq.{take-suc-set, append-snoc}
 use Rattle.distance.proofs.Path.{path-none, path-more, path-lost, path-best, under}
 use Rattle.distance.specs.Labels.{Shortest}
-use Rattle.distance.specs.Path.{key, tightb, hop, path, Best}
+use Rattle.distance.specs.Best.{Best}
+use Rattle.distance.specs.Path.{key, tightb, hop, path}
 use Rattle.distance.specs.Way.{Way, here, step}
 use Rattle.graph.specs.Reach.{Edge}
 use Rattle.lists.proofs.Cases.{clash}
@@ -91,4 +92,4 @@ module _ (E T : ℕ → ℕ → Bool) (W K : ℕ → ℕ → ℕ) (n x y : ℕ) 
   pair-no f l = record { yes = λ e. clash refl (sym e); no = λ _ k w. f (under E W n y m d small turned x k w .0) }
 
   pub pair-yes : getD m x 0 ≡ 2 → (l : List ℕ) → l ≡ path E (key W) n m d n x → Pair E W n x y true l
-  pair-yes t l e = record { yes = λ _. subst (λ (p : List ℕ). Best E W n x y p) (sym e) (path-best E W n y m d small turned x lx t); no = λ q. clash refl q }
+  pair-yes t l e = record { yes = λ _. subst (λ (p : List ℕ). Best (Edge E n) W x y p) (sym e) (path-best E W n y m d small turned x lx t); no = λ q. clash refl q }

@@ -15,7 +15,7 @@ use Rattle.distance.specs.Way.{Way, here, step}
 use Rattle.graph.specs.Reach.{Edge}
 use Rattle.lists.proofs.Cases.{on, on-same, clash}
 use Rattle.lists.proofs.Count.{count-ext, count-flip, count-le}
-use Rattle.distance.specs.Labels.{relM, relD, Relaxed, Labels, live, Shortest, Best}
+use Rattle.distance.specs.Labels.{relM, relD, Relaxed, Labels, live, Shortest, Nearest}
 
 pub live-le : (n : ℕ) (m : List ℕ) → live n m ≤ n
 unfolding live
@@ -227,7 +227,7 @@ labels-first {E} {W} {n} {s} {b} {r} m d small ls wide long none =
     }
 
 module _ {n : ℕ} {m d : List ℕ} where
-  pub best-first : Best n m d 0 n
+  pub best-first : Nearest n m d 0 n
   best-first = record {
     small = omega arith;
     some = λ l. absurd (lt-irrefl n l);
@@ -235,8 +235,8 @@ module _ {n : ℕ} {m d : List ℕ} where
     least = λ _ v l. absurd (lt-irrefl v (omega arith));
   }
 
-  module _ {j b : ℕ} (h : Best n m d j b) where
-    pub best-skip : (getD m j 0 ≡ 1 → ⊥) → Best n m d (j + 1) b
+  module _ {j b : ℕ} (h : Nearest n m d j b) where
+    pub best-skip : (getD m j 0 ≡ 1 → ⊥) → Nearest n m d (j + 1) b
     best-skip f = record {
       small = h .small;
       some = h .some;
@@ -244,7 +244,7 @@ module _ {n : ℕ} {m d : List ℕ} where
       least = λ l. below-more (λ v. getD m v 0 ≡ 1 → getD d b 0 ≤ getD d v 0) j (h .least l) (λ o. absurd (f o));
     }
 
-    pub best-keep : b < n → getD d b 0 ≤ getD d j 0 → Best n m d (j + 1) b
+    pub best-keep : b < n → getD d b 0 ≤ getD d j 0 → Nearest n m d (j + 1) b
     best-keep lb f = record {
       small = h .small;
       some = h .some;
@@ -252,7 +252,7 @@ module _ {n : ℕ} {m d : List ℕ} where
       least = λ l. below-more (λ v. getD m v 0 ≡ 1 → getD d b 0 ≤ getD d v 0) j (h .least l) (λ o. f);
     }
 
-    pub best-take : j < n → getD m j 0 ≡ 1 → (b < n → getD d j 0 ≤ getD d b 0) → Best n m d (j + 1) j
+    pub best-take : j < n → getD m j 0 ≡ 1 → (b < n → getD d j 0 ≤ getD d b 0) → Nearest n m d (j + 1) j
     best-take lj o f = record {
       small = omega arith;
       some = λ l. o;

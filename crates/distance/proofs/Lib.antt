@@ -1,3 +1,4 @@
+pub mod Best
 pub mod Labels
 pub mod Cost
 pub mod Path

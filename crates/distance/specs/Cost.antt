@@ -4,7 +4,7 @@ use mathlib.Core.Bool.{Bool, true}
 use mathlib.Core.List.{List}
 use Prim.Native.Nat.{ℕ, _+_, _-_, _*_, _≤_, _<_}
 use lib.ListN.{length, getD, set}
-use Rattle.distance.specs.Labels.{relM, relD, Labels, live, Best}
+use Rattle.distance.specs.Labels.{relM, relD, Labels, live, Nearest}
 
 abbrev pub keyOf : List ℕ → ℕ → ℕ → ℕ
 keyOf w u v = getD w (u * 256 + v) 0 * 65536 + 1
@@ -27,4 +27,4 @@ pub record Part (E : ℕ → ℕ → Bool) (W : ℕ → ℕ → ℕ) (n u : ℕ)
 
 -- the search: every settled number adds a step's bound
 abbrev pub Search : (ℕ → ℕ → Bool) → (ℕ → ℕ → ℕ) → ℕ → ℕ → List ℕ → List ℕ → ℕ → Type 0
-Search E W n s m d u = Labels E W n s ((n - live n m) * 281474976710656) (n - live n m) m d × Best n m d n u
+Search E W n s m d u = Labels E W n s ((n - live n m) * 281474976710656) (n - live n m) m d × Nearest n m d n u

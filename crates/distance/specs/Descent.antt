@@ -4,7 +4,9 @@ use mathlib.Core.Bool.{Bool, true, false}
 use mathlib.Core.List.{List, _++_}
 use Prim.Native.Nat.{ℕ, _+_, _-_, _*_, _≤_, _<_}
 use lib.ListN.{length, getD, take}
-use Rattle.distance.specs.Path.{path, Best, Walk}
+use Rattle.graph.specs.Reach.{Edge}
+use Rattle.distance.specs.Best.{Best, Walk}
+use Rattle.distance.specs.Path.{path}
 
 -- the first `at` numbers of the path stand in o, and u is the last
 pub record Down (E : ℕ → ℕ → Bool) (K : ℕ → ℕ → ℕ) (n : ℕ) (m d : List ℕ) (x at u : ℕ) (o : List ℕ) : Type 0 where
@@ -18,5 +20,5 @@ weight w x v = getD w (x * 256 + v) 0
 
 -- the answer for a pair: the path where there is a walk
 pub record Pair (E : ℕ → ℕ → Bool) (W : ℕ → ℕ → ℕ) (n x y : ℕ) (found : Bool) (l : List ℕ) : Type 0 where
-  pub yes : found ≡ true → Best E W n x y l
-  pub no : found ≡ false → (k : List ℕ) → Walk E n x k y → ⊥
+  pub yes : found ≡ true → Best (Edge E n) W x y l
+  pub no : found ≡ false → (k : List ℕ) → Walk (Edge E n) x k y → ⊥

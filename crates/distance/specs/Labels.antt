@@ -49,7 +49,7 @@ pub record Shortest (E : ℕ → ℕ → Bool) (W : ℕ → ℕ → ℕ) (n s : 
   pub least : (y k j : ℕ) → Way (Edge E n) W s y k j → (getD m y 0 ≡ 2) × (getD d y 0 ≤ k)
 
 -- the labelled number of least key among those below j, or n
-pub record Best (n : ℕ) (m d : List ℕ) (j b : ℕ) : Type 0 where
+pub record Nearest (n : ℕ) (m d : List ℕ) (j b : ℕ) : Type 0 where
   pub small : b ≤ n
   pub some : b < n → getD m b 0 ≡ 1
   pub none : n ≤ b → (v : ℕ) → v < j → getD m v 0 ≡ 1 → ⊥

@@ -2,15 +2,15 @@ ghost use mathlib.Core.Path.{_≡_};
 ghost use Prim.Native.Nat.{ℕ, _+_, _*_, _<_, _≤_};
 ghost use lib.ListN.{length, getD, take};
 ghost use Rattle.graph.specs.Reach.{matrix};
-ghost use Rattle.distance.specs.Labels.{Best, Relaxed, Shortest};
+ghost use Rattle.distance.specs.Labels.{Nearest, Relaxed, Shortest};
 ghost use Rattle.distance.specs.Cost.{keyOf, One};
 ghost use Rattle.distance.specs.Path.{tightb, hop, path};
 ghost use Rattle.distance.specs.Descent.{Pair, weight};
 
 // The better of the best so far and v.
 fn better(n: usize, m: &[u8; 256], d: &[u64; 256], best: usize, v: usize) -> usize
-    requires { ⌜ (n ≤ 256) × (v < n) × Best n (now m) (now d) v best ⌝ }
-    ensures { λ r. ⌜ Best n (now (m .entry)) (now (d .entry)) (v + 1) r ⌝ }
+    requires { ⌜ (n ≤ 256) × (v < n) × Nearest n (now m) (now d) v best ⌝ }
+    ensures { λ r. ⌜ Nearest n (now (m .entry)) (now (d .entry)) (v + 1) r ⌝ }
 {
     if m[v] != 1 {
         return best;
@@ -27,7 +27,7 @@ fn better(n: usize, m: &[u8; 256], d: &[u64; 256], best: usize, v: usize) -> usi
 // The labelled number of least key, or n.
 fn pick(n: usize, m: &[u8; 256], d: &[u64; 256]) -> usize
     requires { ⌜ n ≤ 256 ⌝ }
-    ensures { λ r. ⌜ Best n (now (m .entry)) (now (d .entry)) n r ⌝ }
+    ensures { λ r. ⌜ Nearest n (now (m .entry)) (now (d .entry)) n r ⌝ }
 {
     let mut best = n;
     let mut v = 0;
