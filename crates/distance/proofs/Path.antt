@@ -185,3 +185,10 @@ module _ (E : ℕ → ℕ → Bool) (W : ℕ → ℕ → ℕ) (n y : ℕ) (m d :
             ))
             (pairs x k w (total W x (r .0)) (length (r .0)) (sym (r .2) ∙ q₂) (omega (arith, r .3)));
       }
+
+  -- the key of x is that of its path
+  pub path-key : (x : ℕ) → x < n → getD m x 0 ≡ 2 → getD d x 0 ≡ total W x (path E (key W) n m d n x) * 65536 + length (path E (key W) n m d n x)
+  path-key x lx t =
+      let r = real x lx t in
+      let g : Good x (path E (key W) n m d n x) (r .0) = path-good n x (r .0) (r .1) (r .2) (r .3) (omega (arith, r .3)) in
+      sym (g .1) ∙ key-total W x (path E (key W) n m d n x)

@@ -1,15 +1,10 @@
--- The path: of the walks from x to y those of least cost, of these those of fewest steps, of these the smallest vertex list.
--- Assumes nothing.
-use mathlib.Core.Path.{_≡_}
+-- The way down the keys: from x the smallest step that keeps to a least key, and so on. Assumes nothing.
 use mathlib.Core.Bool.{Bool, _&&_, cond}
-use mathlib.Core.Logic.{_⊎_}
 use mathlib.Core.List.{List, [], _∷_}
-use Prim.Native.Nat.{ℕ, zero, suc, _+_, _*_, _<_}
+use Prim.Native.Nat.{ℕ, zero, suc, _+_, _*_}
 use lib.Dec.{eqb, ltb}
-use lib.ListN.{length, getD}
-use Rattle.graph.specs.Reach.{Edge}
+use lib.ListN.{getD}
 use Rattle.order.specs.Least.{least}
-use Rattle.order.specs.Sort.{LexLe}
 
 -- cost and steps in one number
 abbrev pub key : (ℕ → ℕ → ℕ) → ℕ → ℕ → ℕ

@@ -1,19 +1,18 @@
 -- `distance::dijkstra` meets its contract. Assumes nothing.
 use Rattle.distance.proofs.Cost.{search-end, search-fits, search-less, search-more}
 use Rattle.distance.proofs.Labels.{labels-first}
-use Rattle.distance.specs.Cost.{keyOf, Search}
+use Rattle.distance.specs.Cost.{stepIn, keyIn, Search}
 use Rattle.distance.specs.Labels.{live}
-use Rattle.graph.specs.Reach.{matrix}
 use native.Mathlib.Omega.{arith}
 use lib.ListN.{length-set}
 use Rattle.distance.proofs.dijkstra.Statement.{statement}
 use Rattle.distance.proofs.dijkstra.Tie as tie
 
 abbrev Inv-loop : tie.InvT-loop
-Inv-loop adj w n s m₀ d₀ u₀ m d u = Search (matrix adj) (keyOf w) n s m d u
+Inv-loop c w n s m₀ d₀ u₀ m d u = Search (stepIn c) (keyIn c w) n s m d u
 
 abbrev μ-loop : tie.MeasureT-loop
-μ-loop adj w n s m₀ d₀ u₀ m d u = live n m
+μ-loop c w n s m₀ d₀ u₀ m d u = live n m
 
 element-write-m : tie.Need-element-write-m Inv-loop μ-loop
 element-write-m c = omega arith
