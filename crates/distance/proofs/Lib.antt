@@ -3,3 +3,4 @@ pub mod Labels
 pub mod Cost
 pub mod Path
 pub mod Descent
+pub mod Ways
