@@ -1,3 +1,5 @@
 pub mod Values
 pub mod Choosing
 pub mod Lightest
+pub mod Numbers
+pub mod Writing

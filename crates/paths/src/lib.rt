@@ -1,3 +1,2 @@
 // Paths: the best walk between two vertices with its cost, and the costs from a vertex.
 mod choices;
-mod pair;
