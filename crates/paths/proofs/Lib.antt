@@ -3,3 +3,4 @@ pub mod Choosing
 pub mod Lightest
 pub mod Numbers
 pub mod Writing
+pub mod Answers

@@ -2,7 +2,7 @@
 use mathlib.Core.Path.{_≡_, refl, sym, ap, ap₂, _∙_, subst}
 use mathlib.Core.Bool.{Bool, true, false, not, cond}
 use mathlib.Core.List.{List, [], _∷_, _++_, map, append-assoc, append-nil}
-use Prim.Native.Nat.{ℕ, zero, suc, _+_, _*_, _/_, _≤_, _<_}
+use Prim.Native.Nat.{ℕ, zero, suc, _+_, _*_, _-_, _/_, _≤_, _<_}
 use native.Mathlib.Nat.{lt-irrefl, le-antisymm}
 use native.Mathlib.Numerals.{add-one}
 use native.Mathlib.Omega.{arith}
@@ -113,10 +113,11 @@ module _ (ws : List ℕ) (h : ℕ) where
       past zero q = absurd (lt-irrefl 0 (omega arith))
       past (suc j) q = sym (ap (λ (r : Hyperedge). r .number) (List·getD-eq-default (readHyperedges limit ws) noHyperedge {n = j} (omega (arith, length-tab (hyperedgeAt limit ws) (hyperedgeCount ws)))))
 
-  pub number-here : (n r : ℕ) → n ≡ hyperedgeCount ws → h ≤ n → (h ≡ 0 → ⊥) → (j : ℕ) → h ≡ j + 1 → r ≡ hyperedgeAt limit ws j .number → r ≡ hyperedgeBy (read limit ws) h .number
-  number-here n r e l ne j ej er =
-      er ∙ sym (ap (λ (q : Hyperedge). q .number) (getD-tab (hyperedgeAt limit ws) (hyperedgeCount ws) j noHyperedge (omega arith)))
-      ∙ ap (λ (k : ℕ). hyperedgeBy (read limit ws) k .number) (sym (ej ∙ add-one j))
+  pub number-here : (n r : ℕ) → n ≡ hyperedgeCount ws → h ≤ n → (h ≡ 0 → ⊥) → r ≡ hyperedgeAt limit ws (h - 1) .number → r ≡ hyperedgeBy (read limit ws) h .number
+  number-here n r e l ne er =
+      let q : suc (h - 1) ≡ h = omega (arith, ne) in
+      er ∙ sym (ap (λ (q : Hyperedge). q .number) (getD-tab (hyperedgeAt limit ws) (hyperedgeCount ws) (h - 1) noHyperedge (omega (arith, ne))))
+      ∙ ap (λ (k : ℕ). hyperedgeBy (read limit ws) k .number) q
 
 -- the entry of a step: p and q are what `vertex_number` and `number_at` found
 pub step-words : {ws : List ℕ} → Formed limit ws → (c : List ℕ) → Chosen true ws c → (a b : ℕ) → a < vertexCount ws → b < vertexCount ws
@@ -245,8 +246,8 @@ module _ (t : Table) (m d : List ℕ) (v : ℕ) where
   unfolding keyWords
   record-yes at out exit h q = let e : reached m v ≡ true = eq-eqb (getD m v 0) 2 h in record { wrote = rw e q; after = rw e }
 
-  pub record-room : (at : ℕ) (out : List ℕ) → at + 3 * bit (reached m v) ≤ length out → getD m v 0 ≡ 2 → at + 3 ≤ length out
-  record-room at out l h = omega (arith, ap bit (eq-eqb (getD m v 0) 2 h))
+pub record-room : (m : List ℕ) (v at : ℕ) (out : List ℕ) → at + 3 * bit (reached m v) ≤ length out → getD m v 0 ≡ 2 → at + 3 ≤ length out
+record-room m v at out l h = omega (arith, ap bit (eq-eqb (getD m v 0) 2 h))
 
 module _ (t : Table) (m d : List ℕ) where
   words-length : (v : ℕ) → length (keyWords t m d v) ≡ 3 * bit (reached m v)
