@@ -101,6 +101,10 @@ head-words cost count x (a ∷ b ∷ c ∷ []) l = absurd (lt-irrefl 0 (omega ar
 head-words cost count x (a ∷ b ∷ c ∷ d ∷ []) l = absurd (lt-irrefl 0 (omega arith))
 head-words cost count x (a ∷ b ∷ c ∷ d ∷ e ∷ out) l = refl
 
+-- the head keeps the slice's length
+pub head-room : (cost count x : ℕ) (out mid : List ℕ) (k : ℕ) → mid ≡ over (headWords cost count x) out → 5 + k ≤ length out → 5 + k ≤ length mid
+head-room cost count x out mid k e l = omega (arith, ap length e, over-length (headWords cost count x) out (omega arith))
+
 -- the number at a place: k is the place, n what `hyperedge_count` found
 module _ (ws : List ℕ) (h : ℕ) where
   pub number-none : h ≡ 0 → 0 ≡ hyperedgeBy (read limit ws) h .number

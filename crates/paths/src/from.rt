@@ -30,7 +30,7 @@ fn one_reached(mark: u8) -> usize
 // How many of the first n records are reached.
 fn count_reached(n: usize, m: &[u8; 256]) -> usize
     requires { ⌜ n ≤ 256 ⌝ }
-    ensures { λ r. ⌜ r ≡ count (reached (now (m .entry))) n ⌝ }
+    ensures { λ r. ⌜ (r ≡ count (reached (now (m .entry))) n) × (r ≤ n) ⌝ }
 {
     let mut k: usize = 0;
     let mut v = 0;

@@ -38,7 +38,7 @@ loop-again : tie.Need-loop-again Inv-loop μ-loop
 loop-again c = let l = c .before .before .before in (search needs, omega (arith, c .one-reached .ensures, bit-le (reached (c .before .before .before .before .args .m .now) (l .loop .v))), count-next (c .before .before .before .before .args .m .now) (l .loop .v) (l .loop .k) (l .loop .inv .2) _ (c .one-reached .ensures))
 
 returns : tie.Need-returns Inv-loop μ-loop
-returns c = search count-all
+returns c = (search count-all, search needs)
 
 pub count-reached-spec : {M : Type 1} → statement M
 count-reached-spec =
