@@ -21,6 +21,8 @@ reply timed_get_vertex_index(T, uint32_t weight, OUT);
 reply timed_contains_vertex(T, uint32_t weight);
 reply timed_is_reachable(T, uint32_t from, uint32_t to);
 reply timed_get_bfs(T, uint32_t vertex, OUT);
+reply timed_get_dijkstra_connections_with_cost(T, uint32_t from, uint32_t to, OUT);
+reply timed_get_dijkstra_from(T, uint32_t vertex, OUT);
 reply timed_random_walk(T, uint32_t start, size_t steps, uint64_t seed, OUT);
 reply timed_write_frames(T, uint8_t *text, size_t text_bytes);
 
@@ -53,6 +55,8 @@ int main(void) {
     QUERY("contains_vertex", 8000, timed_contains_vertex(full, WORDS, 500));
     QUERY("is_reachable", 80000, timed_is_reachable(full, WORDS, 0, 255));
     QUERY("bfs", 80000, timed_get_bfs(full, WORDS, 0, out, ROOM));
+    QUERY("dijkstra_connections_with_cost", 120000, timed_get_dijkstra_connections_with_cost(full, WORDS, 0, 255, out, ROOM));
+    QUERY("dijkstra_from", 120000, timed_get_dijkstra_from(full, WORDS, 0, out, ROOM));
     QUERY("write_frames", 200000, timed_write_frames(full, WORDS, text, sizeof text));
     QUERY("random_walk of 64 steps", 140625, timed_random_walk(full, WORDS, 0, 64, 1, out, ROOM));
     return 0;

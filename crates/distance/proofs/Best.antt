@@ -127,8 +127,10 @@ module _ (W : ℕ → ℕ → ℕ) (x : ℕ) where
       ⊎-elim
       (λ (p : total W v l < total W v k). inl (omega arith))
       (λ (p : (total W v l ≡ total W v k) × ((length l < length k) ⊎ ((length l ≡ length k) × LexLe l k))).
-      inr (ap (λ (c : ℕ). W x v + c) (p .0),
-        ⊎-elim (λ (r : length l < length k). inl (omega arith)) (λ (r : (length l ≡ length k) × LexLe l k). inr (ap suc (r .0), inr (refl, r .1))) (p .1)))
+      inr (
+        ap (λ (c : ℕ). W x v + c) (p .0),
+        ⊎-elim (λ (r : length l < length k). inl (omega arith)) (λ (r : (length l ≡ length k) × LexLe l k). inr (ap suc (r .0), inr (refl, r .1))) (p .1),
+      ))
       a
 
   ahead-yes : (l k : List ℕ) → ahead W x l k ≡ true → Ahead W x l k
@@ -137,9 +139,12 @@ module _ (W : ℕ → ℕ → ℕ) (x : ℕ) where
       on (ltb (total W x l) (total W x k))
       (λ p. inl (ltb-true _ _ p))
       (λ p. on (eqb (total W x l) (total W x k))
-      (λ q. inr (eqb-true _ _ q, on (ltb (length l) (length k))
-      (λ r. inl (ltb-true _ _ r))
-      (λ r. on (eqb (length l) (length k)) (λ s. inr (eqb-true _ _ s, lex-yes l k (rw (p, q, r, s) at e))) (λ s. clash e (rw (p, q, r, s))))))
+      (λ q. inr (
+        eqb-true _ _ q,
+        on (ltb (length l) (length k))
+            (λ r. inl (ltb-true _ _ r))
+            (λ r. on (eqb (length l) (length k)) (λ s. inr (eqb-true _ _ s, lex-yes l k (rw (p, q, r, s) at e))) (λ s. clash e (rw (p, q, r, s)))),
+      ))
       (λ q. clash e (rw (p, q))))
 
   ahead-no : (l k : List ℕ) → ahead W x l k ≡ false → Ahead W x k l
@@ -148,9 +153,12 @@ module _ (W : ℕ → ℕ → ℕ) (x : ℕ) where
       on (ltb (total W x l) (total W x k))
       (λ p. clash (rw p) e)
       (λ p. on (eqb (total W x l) (total W x k))
-      (λ q. inr (sym (eqb-true _ _ q), on (ltb (length l) (length k))
-      (λ r. clash (rw (p, q, r)) e)
-      (λ r. on (eqb (length l) (length k)) (λ s. inr (sym (eqb-true _ _ s), lex-no l k (rw (p, q, r, s) at e))) (λ s. inl (omega (arith, ltb-false (length l) (length k) r, eqb-false (length l) (length k) s))))))
+      (λ q. inr (
+        sym (eqb-true _ _ q),
+        on (ltb (length l) (length k))
+            (λ r. clash (rw (p, q, r)) e)
+            (λ r. on (eqb (length l) (length k)) (λ s. inr (sym (eqb-true _ _ s), lex-no l k (rw (p, q, r, s) at e))) (λ s. inl (omega (arith, ltb-false (length l) (length k) r, eqb-false (length l) (length k) s)))),
+      ))
       (λ q. inl (omega (arith, ltb-false (total W x l) (total W x k) p, eqb-false (total W x l) (total W x k) q))))
 
 -- no two walks are best

@@ -85,14 +85,7 @@ fn relax_one(
 }
 
 // The steps of the settled number u.
-fn relax(
-    c: &[u8; 65536],
-    w: &[u32; 256],
-    n: usize,
-    u: usize,
-    m: &mut [u8; 256],
-    d: &mut [u64; 256],
-)
+fn relax(c: &[u8; 65536], w: &[u32; 256], n: usize, u: usize, m: &mut [u8; 256], d: &mut [u64; 256])
     requires { ⌜ (n ≤ 256) × (u < n) × (length (now m) ≡ 256) × (length (now d) ≡ 256) × (getD (now d) u 0 ≤ 144115188075855872) ⌝ }
     ensures { λ r. ⌜ Relaxed (stepIn (now (c .entry))) (keyIn (now (c .entry)) (now (w .entry))) 281474976710656 n u (now (m .entry)) (now (d .entry)) (now (m .exit)) (now (d .exit)) ⌝ }
 {
@@ -127,14 +120,7 @@ pub fn dijkstra(
 }
 
 // Whether the step from x to v keeps to a least key: the matrix holds the steps against their direction.
-fn tight(
-    c: &[u8; 65536],
-    w: &[u32; 256],
-    m: &[u8; 256],
-    d: &[u64; 256],
-    x: usize,
-    v: usize,
-) -> bool
+fn tight(c: &[u8; 65536], w: &[u32; 256], m: &[u8; 256], d: &[u64; 256], x: usize, v: usize) -> bool
     requires { ⌜ (x < 256) × (v < 256) × (getD (now m) v 0 ≡ 2 → getD (now d) v 0 ≤ 72057594037927936) ⌝ }
     ensures { λ r. ⌜ r ≡ tightb (stepBack (now (c .entry))) (keyBack (now (c .entry)) (now (w .entry))) (now (m .entry)) (now (d .entry)) x v ⌝ }
 {
@@ -224,8 +210,16 @@ pub fn best_walk(
     let mut d = [0u64; 256];
     dijkstra(c, w, n, y, &mut m, &mut d);
     if m[x] != 2 {
-        return Walked { ok: false, steps: 0, cost: 0 };
+        return Walked {
+            ok: false,
+            steps: 0,
+            cost: 0,
+        };
     }
     let k = descend(c, w, &m, &d, n, x, out);
-    Walked { ok: true, steps: k, cost: d[x] / 65536 }
+    Walked {
+        ok: true,
+        steps: k,
+        cost: d[x] / 65536,
+    }
 }

@@ -3,7 +3,7 @@ use mathlib.Core.Path.{_≡_, refl, sym, ap, ap₂, _∙_, subst}
 use mathlib.Core.Bool.{Bool, true, false, _||_, cond}
 use mathlib.Core.List.{List, [], _∷_}
 use Prim.Native.Nat.{ℕ, zero, suc, _+_, _*_, _≤_, _<_}
-use native.Mathlib.Nat.{lt-irrefl, le-antisymm}
+use native.Mathlib.Nat.{le-antisymm}
 use native.Mathlib.Numerals.{add-one}
 use native.Mathlib.Omega.{arith}
 use lib.Dec.{eqb, ltb}
@@ -17,14 +17,14 @@ use Rattle.lists.proofs.Tab.{length-tab, getD-tab}
 use Rattle.lists.proofs.Ascend.{ascending-apart}
 use Rattle.layout.specs.declared.Found.the-variants.{At}
 use Rattle.layout.specs.Content.{Hyperedge, Table, liveVertices, position}
-use Rattle.layout.specs.Layout.{limit, vertexLimit, vertexCount, hyperedgeLimit, hyperedgeCount, hyperedgeAt, membersAt, read}
+use Rattle.layout.specs.Layout.{limit, vertexLimit, vertexCount, hyperedgeCount, hyperedgeAt, membersAt, read}
 use Rattle.layout.specs.WellFormed.{Formed}
 use Rattle.layout.specs.Steps.{stepsOf, isStep, makesStep}
 use Rattle.layout.proofs.Position.{position-found}
 use Rattle.layout.proofs.Read.{live-length, live-ascends}
 use Rattle.steps.specs.Matrices.{numberOf, cell}
 use Rattle.steps.proofs.Any.{any-snoc, steps-more}
-use Rattle.paths.specs.Paths.{noHyperedge, hyperedgeBy, weightBy, lighter, choiceAmong, choice}
+use Rattle.paths.specs.Paths.{noHyperedge, weightBy, lighter, choiceAmong, choice}
 use Rattle.paths.specs.Choices.{Weights, weightIn, facing, Values, among, Choosing, Chosen}
 use Rattle.paths.proofs.Values.{values-ext, values-none, values-set, weights-are}
 

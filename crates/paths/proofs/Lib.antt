@@ -4,3 +4,5 @@ pub mod Lightest
 pub mod Numbers
 pub mod Writing
 pub mod Answers
+pub mod Sheet
+pub mod Theorems

@@ -1,15 +1,15 @@
 -- The hyperedge of a step: where there is a step it is the lightest, and the only one. Assumes nothing.
 use mathlib.Core.Path.{_≡_, refl, sym, ap, _∙_, subst}
-use mathlib.Core.Bool.{Bool, true, false, not, cond}
+use mathlib.Core.Bool.{Bool, true, false, not}
 use mathlib.Core.Logic.{_⊎_, inl, inr, ⊎-elim}
 use mathlib.Core.List.{List, [], _∷_, map}
 use Prim.Native.Nat.{ℕ, zero, suc, _≤_, _<_}
-use native.Mathlib.Nat.{lt-irrefl, not-suc-le-zero, le-of-suc-le-suc, le-antisymm}
+use native.Mathlib.Nat.{lt-irrefl, not-suc-le-zero}
 use native.Mathlib.Omega.{arith}
 use lib.Dec.{eqb, ltb}
 use lib.ListN.{length, getD}
-use borrow.Author.Tests.{eq-eqb, ne-eqb, eqb-false, ltb-true, ltb-false, not-true}
-use Rattle.lists.specs.Lists.{any, Ascending}
+use borrow.Author.Tests.{ne-eqb, eqb-false, ltb-true, ltb-false, not-true}
+use Rattle.lists.specs.Lists.{Ascending}
 use Rattle.lists.proofs.Cases.{on, on-same, on-below, clash, test-ext, and-left, and-right}
 use Rattle.lists.proofs.Maps.{map-length}
 use Rattle.lists.proofs.Ascend.{ascending-apart}

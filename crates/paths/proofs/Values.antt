@@ -1,19 +1,19 @@
 -- Laws of the matrix that has a value for each pair of records, and of the weights by place. Assumes nothing.
 use mathlib.Core.Path.{_≡_, refl, sym, ap, _∙_, subst}
-use mathlib.Core.Bool.{Bool, true, false, cond}
+use mathlib.Core.Bool.{Bool, false, cond}
 use mathlib.Core.List.{List}
 use Prim.Native.Nat.{ℕ, zero, suc, _+_, _*_, _≤_, _<_}
 use native.Mathlib.Nat.{lt-irrefl, not-suc-le-zero, le-antisymm}
 use native.Mathlib.Omega.{arith}
 use lib.Dec.{eqb, ltb}
-use lib.ListN.{length, getD, set, length-set, replicate, length-replicate, getD-replicate, List·getD-eq-default}
+use lib.ListN.{getD, set, length-set, replicate, length-replicate, getD-replicate, List·getD-eq-default}
 use lib.Seq.{getD-set-same, getD-set-other, set-getD}
 use borrow.Author.Tests.{eq-eqb, ne-eqb, lt-ltb, ltb-true, le-ltb}
 use Rattle.lists.specs.Tests.{_and_}
 use Rattle.lists.proofs.Cases.{on, on-same, on-below, and-both, and-false-left, and-false-right}
 use Rattle.lists.proofs.Tab.{length-tab, getD-tab}
 use Rattle.layout.specs.Content.{Hyperedge, Table}
-use Rattle.layout.specs.Layout.{limit, vertexLimit, hyperedgeLimit, hyperedgeCount, hyperedgeAt, readHyperedges, read}
+use Rattle.layout.specs.Layout.{limit, vertexLimit, hyperedgeCount, hyperedgeAt, readHyperedges, read}
 use Rattle.layout.specs.WellFormed.{Formed}
 use Rattle.steps.specs.Matrices.{cell}
 use Rattle.paths.specs.Paths.{noHyperedge, weightBy, lighter}
@@ -122,13 +122,13 @@ module _ (ws : List ℕ) (j : ℕ) (w : List ℕ) (h : Weights (read limit ws) j
   weights-more f k ek lk r e =
       let l : j < hyperedgeCount ws = omega arith in
       record {
-    sized = length-set w (j + 1) r ∙ h .sized;
-    first = λ i li. on-same i j
-        (λ q. ap (λ (z : ℕ). getD (set w (j + 1) r) z 0) (let z : suc i ≡ j + 1 = omega arith in z) ∙ getD-set-same w (j + 1) r 0 (omega (arith, h .sized, f .shape .hyperedges-le)) ∙ e ∙ sym (weight-read ws j l) ∙ ap (λ (z : ℕ). weightBy (read limit ws) (suc z)) (sym q))
-        (λ ne. getD-set-other w (j + 1) (suc i) r 0 (λ z. ne (omega arith)) ∙ h .first i (omega arith));
-    rest = λ i li. getD-set-other w (j + 1) (suc i) r 0 (λ z. lt-irrefl i (omega arith)) ∙ h .rest i (omega arith);
-    none = getD-set-other w (j + 1) 0 r 0 (λ z. lt-irrefl j (omega arith)) ∙ h .none;
-  }
+        sized = length-set w (j + 1) r ∙ h .sized;
+        first = λ i li. on-same i j
+            (λ q. ap (λ (z : ℕ). getD (set w (j + 1) r) z 0) (let z : suc i ≡ j + 1 = omega arith in z) ∙ getD-set-same w (j + 1) r 0 (omega (arith, h .sized, f .shape .hyperedges-le)) ∙ e ∙ sym (weight-read ws j l) ∙ ap (λ (z : ℕ). weightBy (read limit ws) (suc z)) (sym q))
+            (λ ne. getD-set-other w (j + 1) (suc i) r 0 (λ z. ne (omega arith)) ∙ h .first i (omega arith));
+        rest = λ i li. getD-set-other w (j + 1) (suc i) r 0 (λ z. lt-irrefl i (omega arith)) ∙ h .rest i (omega arith);
+        none = getD-set-other w (j + 1) 0 r 0 (λ z. lt-irrefl j (omega arith)) ∙ h .none;
+      }
 
   pub weights-end : (k : ℕ) → k ≡ hyperedgeCount ws → j ≤ k → k ≤ j → Weights (read limit ws) (hyperedgeCount ws) w
   weights-end k e a b = subst (λ (i : ℕ). Weights (read limit ws) i w) (le-antisymm a b ∙ e) h

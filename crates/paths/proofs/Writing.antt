@@ -1,20 +1,20 @@
 -- What is written: words at a place, the entries of a walk, the costs from a record. Assumes nothing.
 use mathlib.Core.Path.{_≡_, refl, sym, ap, ap₂, _∙_, subst}
-use mathlib.Core.Bool.{Bool, true, false, not, cond}
+use mathlib.Core.Bool.{true, false}
 use mathlib.Core.List.{List, [], _∷_, _++_, map, append-assoc, append-nil}
 use Prim.Native.Nat.{ℕ, zero, suc, _+_, _*_, _-_, _/_, _≤_, _<_}
 use native.Mathlib.Nat.{lt-irrefl, le-antisymm}
 use native.Mathlib.Numerals.{add-one}
 use native.Mathlib.Omega.{arith}
 use lib.Dec.{eqb}
-use lib.ListN.{length, getD, take, drop, set, length-set, length-append, length-take, take-append-drop, List·getD-eq-default}
+use lib.ListN.{length, getD, take, drop, set, length-append, length-take, take-append-drop, List·getD-eq-default}
 use lib.Seq.{take-at, drop-at, drop-cons, drop-length, drop-drop, length-take-le, getD-take}
 use borrow.Author.Tests.{eq-eqb, ne-eqb}
 use Rattle.lists.specs.Tests.{bit, count}
-use Rattle.lists.specs.Lists.{Below, tab, flat, over}
-use Rattle.lists.proofs.Cases.{on, on-same}
+use Rattle.lists.specs.Lists.{tab, flat, over}
+use Rattle.lists.proofs.Cases.{on}
 use Rattle.lists.proofs.Chosen.{over-none, over-more, over-length}
-use Rattle.lists.proofs.Count.{count-upto, count-below}
+use Rattle.lists.proofs.Count.{count-upto}
 use Rattle.lists.proofs.Maps.{map-length}
 use Rattle.lists.proofs.Flat.{flat-snoc, tab-getD}
 use Rattle.lists.proofs.Memb.{memb-getD, below-memb}
@@ -27,7 +27,7 @@ use Rattle.layout.specs.Answers.{result, listed}
 use Rattle.layout.proofs.Answers.{listed-over, listed-fits}
 use Rattle.layout.proofs.Read.{live-length, live-at}
 use Rattle.steps.specs.Matrices.{numberOf, cell}
-use Rattle.paths.specs.Paths.{noHyperedge, hyperedgeBy, choice, stepHyperedge, low, high, noNumber, entriesAfter, costTo, costsFrom}
+use Rattle.paths.specs.Paths.{noHyperedge, hyperedgeBy, stepHyperedge, low, high, noNumber, entriesAfter, costTo, costsFrom}
 use Rattle.paths.specs.Choices.{Chosen}
 use Rattle.paths.specs.Written.{Laid, noPath, laidAt, headWords, stepWords, reached, keyWords, keysBelow, Put}
 use Rattle.paths.proofs.Values.{value-at}

@@ -5,7 +5,7 @@ ghost use Prim.Native.Nat.{_<_, _+_};
 ghost use lib.ListN.{getD, set};
 ghost use Rattle.layout.specs.declared.Found.the-variants.{At};
 ghost use Rattle.layout.specs.Content.{liveVertices, isLive, position};
-ghost use Rattle.layout.specs.Layout.{limit, vertexLimit, hyperedgeLimit, hyperedgeCount, read};
+ghost use Rattle.layout.specs.Layout.{limit, vertexLimit, hyperedgeCount, read};
 ghost use Rattle.layout.specs.WellFormed.{Formed};
 ghost use Rattle.steps.specs.Matrices.{cell};
 ghost use Rattle.paths.specs.Paths.{lighter};

@@ -1,10 +1,9 @@
 // The costs from a vertex: each reachable vertex and its cost, ascending.
 ghost use mathlib.Core.Path.{_≡_};
-ghost use mathlib.Core.Bool.{true};
 ghost use mathlib.Core.List.{[], _∷_};
 ghost use Prim.Native.Nat.{_+_, _*_, _/_, _<_, _≤_};
 ghost use lib.Dec.{eqb};
-ghost use lib.ListN.{length, getD};
+ghost use lib.ListN.{length};
 ghost use Rattle.lists.specs.Tests.{bit, count};
 ghost use Rattle.lists.specs.Lists.{over};
 ghost use Rattle.layout.specs.Layout.{limit, vertexCount, read};
@@ -48,11 +47,24 @@ fn put_cost(t: &[u32], v: usize, key: u64, at: usize, out: &mut [u32])
     ensures { λ _. ⌜ now (out .exit) ≡ laidAt at (numberOf (read limit (now (t .entry))) v ∷ low (key / 65536) ∷ high (key / 65536) ∷ []) (now (out .entry)) ⌝ }
 {
     let cost = key / 65536;
-    words::put_three(layout::vertex_number(t, v), (cost % 4294967296) as u32, (cost / 4294967296) as u32, at, out);
+    words::put_three(
+        layout::vertex_number(t, v),
+        (cost % 4294967296) as u32,
+        (cost / 4294967296) as u32,
+        at,
+        out,
+    );
 }
 
 // The words of record v, where it is reached, at place `at`; the place after them.
-fn put_record(t: &[u32], m: &[u8; 256], d: &[u64; 256], v: usize, at: usize, out: &mut [u32]) -> usize
+fn put_record(
+    t: &[u32],
+    m: &[u8; 256],
+    d: &[u64; 256],
+    v: usize,
+    at: usize,
+    out: &mut [u32],
+) -> usize
     requires { ⌜ Formed limit (now t) ⌝ }
     requires { ⌜ (v < vertexCount (now t)) × (at + 3 * bit (reached (now m) v) ≤ length (now out)) ⌝ }
     ensures { λ r. ⌜ Put at (keyWords (read limit (now (t .entry))) (now (m .entry)) (now (d .entry)) v) (now (out .entry)) r (now (out .exit)) ⌝ }

@@ -39,7 +39,12 @@ fn pair_formed(t: &[u32], from: VertexIndex, to: VertexIndex, out: &mut [u32]) -
 }
 
 // Lists the best walk from `from` to `to`: its cost as low word and high word, the count of entries, and the entries of vertex and hyperedge.
-pub fn get_dijkstra_connections_with_cost(t: &[u32], from: VertexIndex, to: VertexIndex, out: &mut [u32]) -> Answer
+pub fn get_dijkstra_connections_with_cost(
+    t: &[u32],
+    from: VertexIndex,
+    to: VertexIndex,
+    out: &mut [u32],
+) -> Answer
     ensures { λ r. ⌜ result r (now (out .exit)) ≡ onFormed (now (t .entry)) (now (out .entry)) (pairResult (from .0) (to .0) (now (out .entry))) ⌝ }
 {
     if !formed::well_formed(t) {

@@ -2,7 +2,7 @@
 ghost use mathlib.Core.Path.{_≡_};
 ghost use mathlib.Core.Bool.{true};
 ghost use mathlib.Core.List.{[], _∷_, _++_};
-ghost use Prim.Native.Nat.{ℕ, suc, _+_, _*_, _<_, _≤_};
+ghost use Prim.Native.Nat.{_+_, _*_, _<_, _≤_};
 ghost use lib.ListN.{length, take};
 ghost use Rattle.lists.specs.Lists.{over};
 ghost use Rattle.layout.specs.Layout.{limit, vertexCount, read};
@@ -83,7 +83,15 @@ fn list_none(out: &mut [u32]) -> Answer
 }
 
 // The walk of `steps` steps from record i.
-fn list_walk(t: &[u32], c: &[u8; 65536], i: usize, walk: &[u32; 256], steps: usize, cost: u64, out: &mut [u32]) -> Answer
+fn list_walk(
+    t: &[u32],
+    c: &[u8; 65536],
+    i: usize,
+    walk: &[u32; 256],
+    steps: usize,
+    cost: u64,
+    out: &mut [u32],
+) -> Answer
     requires { ⌜ Formed limit (now t) ⌝ }
     requires { ⌜ Chosen true (now t) (now c) × (i < vertexCount (now t)) × Laid (vertexCount (now t)) steps (now walk) ⌝ }
     ensures { λ r. ⌜ result r (now (out .exit)) ≡ listed (headWords cost (steps + 1) (numberOf (read limit (now (t .entry))) i) ++ stepWords (read limit (now (t .entry))) i (take steps (now (walk .entry)))) (now (out .entry)) ⌝ }

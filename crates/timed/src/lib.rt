@@ -128,3 +128,18 @@ pub extern "C" fn timed_random_walk(
 pub extern "C" fn timed_write_frames(t: &[u32], text: &mut [u8]) -> Reply {
     layout::reply_of(frames::write_frames(t, text))
 }
+
+#[no_mangle]
+pub extern "C" fn timed_get_dijkstra_connections_with_cost(
+    t: &[u32],
+    from: VertexIndex,
+    to: VertexIndex,
+    out: &mut [u32],
+) -> Reply {
+    layout::reply_of(paths::get_dijkstra_connections_with_cost(t, from, to, out))
+}
+
+#[no_mangle]
+pub extern "C" fn timed_get_dijkstra_from(t: &[u32], v: VertexIndex, out: &mut [u32]) -> Reply {
+    layout::reply_of(paths::get_dijkstra_from(t, v, out))
+}

@@ -1,7 +1,5 @@
 -- `paths::choices::choose_record` meets its contract: `Passing` at each place of the list. Assumes nothing.
-use mathlib.Core.Path.{_≡_}
-use Prim.Native.Nat.{_+_, _-_}
-use native.Mathlib.Omega.{arith}
+use Prim.Native.Nat.{_-_}
 use lib.ListN.{length}
 use Rattle.steps.proofs.Members.{members-some, members-live, place-below}
 use Rattle.paths.proofs.Choosing.{Passing, passing-first, passing-more, passing-end}

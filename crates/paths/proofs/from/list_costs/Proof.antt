@@ -22,9 +22,13 @@ vertex-count-requires c κs = search needs
 
 dijkstra-requires : tie.Need-dijkstra-requires
 dijkstra-requires c κs =
-    let s = c .before .before .before .before .before .before .before .before .before .before .before .before in
-    (omega (arith, c .before .before .before .before .vertex-count .ensures, s .pre .0 .shape .vertices-le), omega (arith, c .before .before .before .before .vertex-count .ensures, s .pre .1), refl, refl,
-      λ v l. getD-replicate {A = ℕ} 256 v 0 0 (omega (arith, c .before .before .before .before .vertex-count .ensures, s .pre .0 .shape .vertices-le)))
+    let s = c .before .before .before .before .before .before .before .before .before .before .before .before in (
+      omega (arith, c .before .before .before .before .vertex-count .ensures, s .pre .0 .shape .vertices-le),
+      omega (arith, c .before .before .before .before .vertex-count .ensures, s .pre .1),
+      refl,
+      refl,
+      λ v l. getD-replicate {A = ℕ} 256 v 0 0 (omega (arith, c .before .before .before .before .vertex-count .ensures, s .pre .0 .shape .vertices-le)),
+    )
 
 count-reached-requires : tie.Need-count-reached-requires
 count-reached-requires c κs = search needs
@@ -46,7 +50,11 @@ same-length : tie.Need-same-length
 same-length c = search needs
 
 returns-2 : tie.Need-returns-2
-returns-2 c = ?
+returns-2 c =
+    let s = c .before .before .before .before .before .before .before .before .before .before .before .before .before .before .before .before .before .before .before .before .before .before in
+    costs-fits (s .args .t .now) (numberOf (read limit (s .args .t .now)) (s .args .i)) _ _
+    (cost-words (s .pre .0) _ (c .before .before .before .before .before .before .before .before .before .before .before .before .before .before .before .before .before .before .weights .ensures) _ (c .before .before .before .before .before .before .before .before .before .before .before .before .before .before .before .choices .ensures) (s .args .i) (s .pre .1) _ (c .before .before .before .before .before .before .before .before .before .before .before .before .before .before .vertex-count .ensures) _ _ (c .before .before .before .before .before .before .before .before .before .dijkstra .ensures))
+    _ _ (c .before .before .before .before .before .before .before .before .before .before .before .before .before .before .vertex-count .ensures) (c .before .before .before .before .before .before .before .count-reached .ensures .0) _ (c .before .before .before .before .before .before .if1 .left) _ (c .before .before .put-costs .ensures)
 
 pub list-costs-spec : {M : Type 1} → statement M
 list-costs-spec =

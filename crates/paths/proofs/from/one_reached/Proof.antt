@@ -1,6 +1,5 @@
 -- `paths::from::one_reached` meets its contract. Assumes nothing.
 use Rattle.paths.proofs.Writing.{reached-yes, reached-no}
-use borrow.Author.Needs.{needs}
 use Rattle.paths.proofs.from.one_reached.Statement.{statement}
 use Rattle.paths.proofs.from.one_reached.Tie as tie
 

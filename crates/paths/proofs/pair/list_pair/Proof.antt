@@ -31,9 +31,15 @@ returns c =
 
 list-walk-requires : tie.Need-list-walk-requires
 list-walk-requires c κs =
-    let s = c .before .before .before .before .before .before .before .before .before .before .before .before .before .before .before .before .before in
-    (s .pre .0, (c .before .before .before .before .before .before .before .before .before .before .choices .ensures, s .pre .1 .0, pair-laid (s .pre .0) _ (c .before .before .before .before .before .before .before .before .before .before .before .before .before .weights .ensures) _ (c .before .before .before .before .before .before .before .before .before .before .choices .ensures) (s .args .i) (s .args .j) (s .pre .1 .0) (s .pre .1 .1)
-    _ (c .before .before .before .before .before .before .before .vertex-count .ensures) _ _ _ _ (c .before .before .before .before .before .best-walk .ensures) (c .before .before .before .if1 .left)))
+    let s = c .before .before .before .before .before .before .before .before .before .before .before .before .before .before .before .before .before in (
+      s .pre .0,
+      (
+        c .before .before .before .before .before .before .before .before .before .before .choices .ensures,
+        s .pre .1 .0,
+        pair-laid (s .pre .0) _ (c .before .before .before .before .before .before .before .before .before .before .before .before .before .weights .ensures) _ (c .before .before .before .before .before .before .before .before .before .before .choices .ensures) (s .args .i) (s .args .j) (s .pre .1 .0) (s .pre .1 .1)
+            _ (c .before .before .before .before .before .before .before .vertex-count .ensures) _ _ _ _ (c .before .before .before .before .before .best-walk .ensures) (c .before .before .before .if1 .left),
+      ),
+    )
 
 same-length-2 : tie.Need-same-length-2
 same-length-2 c = search needs
