@@ -126,6 +126,10 @@ module _ {E : ℕ → ℕ → Bool} {W : ℕ → ℕ → ℕ} {n s : ℕ} {m d :
       pub search-less : live n m′ < live n m
       search-less = omega (arith, fewer)
 
+      -- every label is under the bound of `pick`
+      pub search-under : (v : ℕ) → v < n → getD m′ v 0 ≡ 1 → getD d′ v 0 < 9223372036854775808
+      search-under v l o = omega (arith, labels-more (h .0) small ls lu (h .1 .some lu) (h .1 .least lu) x .bound v l (λ z. lt-irrefl 0 (omega (arith, z, o))))
+
       pub search-more : {u′ : ℕ} → Nearest n m′ d′ n u′ → Search E W n s m′ d′ u′
       search-more b =
           let e : (n - live n m) * 281474976710656 + 281474976710656 ≡ (n - live n m′) * 281474976710656 = omega (arith, fewer, live-le n m) in

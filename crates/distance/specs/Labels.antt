@@ -54,3 +54,18 @@ pub record Nearest (n : ℕ) (m d : List ℕ) (j b : ℕ) : Type 0 where
   pub some : b < n → getD m b 0 ≡ 1
   pub none : n ≤ b → (v : ℕ) → v < j → getD m v 0 ≡ 1 → ⊥
   pub least : b < n → (v : ℕ) → v < j → getD m v 0 ≡ 1 → getD d b 0 ≤ getD d v 0
+
+-- the key of a labelled number; above every key of a number that is not labelled or is settled
+unfoldable pub openKey : ℕ → ℕ → ℕ
+openKey mark key = cond (eqb mark 1) key 9223372036854775808
+
+-- of a number and the number v, each with its key, the one of the lesser key, the first on a tie
+pub record Nearer (at key v k next least : ℕ) : Type 0 where
+  pub less : k < key → (next ≡ v) × (least ≡ k)
+  pub kept : key ≤ k → (next ≡ at) × (least ≡ key)
+
+-- the nearest among those below j, and its key
+pub record Picking (n : ℕ) (m d : List ℕ) (j at key : ℕ) : Type 0 where
+  pub near : Nearest n m d j at
+  pub some : at < n → key ≡ getD d at 0
+  pub none : n ≤ at → key ≡ 9223372036854775808

@@ -2,40 +2,53 @@
 ghost use mathlib.Core.Path.{_≡_};
 ghost use Prim.Native.Nat.{ℕ, _+_, _*_, _<_, _≤_};
 ghost use lib.ListN.{length, getD};
-ghost use Rattle.distance.specs.Labels.{Nearest, Relaxed, Shortest};
+ghost use Rattle.distance.specs.Labels.{openKey, Nearer, Nearest, Relaxed, Shortest};
 ghost use Rattle.distance.specs.Cost.{stepIn, keyIn, stepBack, costBack, keyBack, One};
 ghost use Rattle.distance.specs.Path.{tightb, hop};
 ghost use Rattle.distance.specs.Descent.{Descended, Pair};
 
-// The better of the best so far and v.
-fn better(n: usize, m: &[u8; 256], d: &[u64; 256], best: usize, v: usize) -> usize
-    requires { ⌜ (n ≤ 256) × (v < n) × Nearest n (now m) (now d) v best ⌝ }
-    ensures { λ r. ⌜ Nearest n (now (m .entry)) (now (d .entry)) (v + 1) r ⌝ }
+// The nearest number so far, and its key.
+struct Near {
+    at: usize,
+    key: u64,
+}
+
+// The key of a labelled number; above every key where the mark says that it is not labelled or is settled.
+fn open_key(mark: u8, key: u64) -> u64
+    ensures { λ r. ⌜ r ≡ openKey mark key ⌝ }
 {
-    if m[v] != 1 {
-        return best;
+    if mark == 1 {
+        return key;
     }
-    if n <= best {
-        return v;
+    9223372036854775808
+}
+
+// The nearer of the nearest so far and v.
+fn nearer(p: Near, v: usize, key: u64) -> Near
+    ensures { λ r. ⌜ Nearer (p .at) (p .key) v key (r .at) (r .key) ⌝ }
+{
+    if key < p.key {
+        return Near { at: v, key: key };
     }
-    if d[v] < d[best] {
-        return v;
-    }
-    best
+    p
 }
 
 // The labelled number of least key, or n.
 fn pick(n: usize, m: &[u8; 256], d: &[u64; 256]) -> usize
-    requires { ⌜ n ≤ 256 ⌝ }
+    requires { ⌜ (n ≤ 256) × ((v : ℕ) → v < n → getD (now m) v 0 ≡ 1 → getD (now d) v 0 < 9223372036854775808) ⌝ }
     ensures { λ r. ⌜ Nearest n (now (m .entry)) (now (d .entry)) n r ⌝ }
 {
-    let mut best = n;
+    let mut p = Near {
+        at: n,
+        key: 9223372036854775808,
+    };
     let mut v = 0;
     while v < n {
-        best = better(n, m, d, best, v);
+        let next = nearer(p, v, open_key(m[v], d[v]));
+        p = next;
         v += 1;
     }
-    best
+    p.at
 }
 
 // The cost of choice h.
