@@ -1,6 +1,6 @@
 -- Labels: a number is 0 unlabelled, 1 labelled, 2 settled; its key is the total of a walk. Assumes nothing.
 use mathlib.Core.Path.{_≡_, refl, sym, ap, _∙_, subst}
-use mathlib.Core.Bool.{Bool, true, not, cond}
+use mathlib.Core.Bool.{Bool, true, not}
 use mathlib.Core.Logic.{_⊎_, inl, inr, ⊎-elim}
 use mathlib.Core.List.{List}
 use Prim.Native.Nat.{ℕ, zero, suc, _+_, _≤_, _<_}
@@ -15,7 +15,7 @@ use Rattle.distance.specs.Way.{Way, here, step}
 use Rattle.graph.specs.Reach.{Edge}
 use Rattle.lists.proofs.Cases.{on, on-same, on-below, clash}
 use Rattle.lists.proofs.Count.{count-ext, count-flip, count-le}
-use Rattle.distance.specs.Labels.{relM, relD, Relaxed, Labels, live, Shortest, openKey, Nearer, Nearest, Picking}
+use Rattle.distance.specs.Labels.{relM, relD, Relaxed, Labels, live, Shortest, farKey, Open, Nearer, Nearest, Picking}
 
 pub live-le : (n : ℕ) (m : List ℕ) → live n m ≤ n
 unfolding live
@@ -262,14 +262,22 @@ module _ {n : ℕ} {m d : List ℕ} where
           (λ _. omega arith);
     }
 
-module _ (mark key : ℕ) where
-  pub open-yes : mark ≡ 1 → key ≡ openKey mark key
-  unfolding openKey
-  open-yes e = rw (eq-eqb mark 1 e)
+module _ (mark : ℕ) where
+  pub far-none : mark ≡ 1 → 0 ≡ farKey mark
+  unfolding farKey
+  far-none e = rw (eq-eqb mark 1 e)
 
-  pub open-no : (mark ≡ 1 → ⊥) → 9223372036854775808 ≡ openKey mark key
-  unfolding openKey
-  open-no e = rw (ne-eqb mark 1 e)
+  pub far-off : (mark ≡ 1 → ⊥) → 9223372036854775808 ≡ farKey mark
+  unfolding farKey
+  far-off e = rw (ne-eqb mark 1 e)
+
+-- f is what `far` found
+module _ (mark key f : ℕ) (e : f ≡ farKey mark) where
+  pub open-far : key < f → Open mark key f
+  open-far l = record { yes = λ o. absurd (lt-irrefl 0 (omega (arith, e, far-none mark o))); no = λ o. omega (arith, e, far-off mark o) }
+
+  pub open-near : f ≤ key → Open mark key key
+  open-near l = record { yes = λ _. refl; no = λ o. omega (arith, e, far-off mark o) }
 
 pub picking-first : (n : ℕ) (m d : List ℕ) → Picking n m d 0 n 9223372036854775808
 picking-first n m d = record { near = best-first; some = λ l. absurd (lt-irrefl n l); none = λ _. refl }
@@ -279,30 +287,26 @@ module _ {n : ℕ} {m d : List ℕ} {v at key : ℕ} (h : Picking n m d v at key
   under : key ≤ 9223372036854775808
   under = on-below at n (λ l. omega (arith, h .some l, small at l (h .near .some l))) (λ l. omega (arith, h .none l))
 
-  pub picking-more : v < n → (k : ℕ) → k ≡ openKey (getD m v 0) (getD d v 0) → (next least : ℕ) → Nearer at key v k next least → Picking n m d (v + 1) next least
-  unfolding openKey
+  pub picking-more : v < n → (k : ℕ) → Open (getD m v 0) (getD d v 0) k → (next least : ℕ) → Nearer at key v k next least → Picking n m d (v + 1) next least
   picking-more lv k ek next least r =
       on-below k key
       (λ l.
       let q = r .less l in
       on-same (getD m v 0) 1
       (λ o.
-      let e : k ≡ getD d v 0 = ek ∙ rw (eq-eqb (getD m v 0) 1 o) in
+      let e : k ≡ getD d v 0 = ek .yes o in
       taken (q .0) (q .1 ∙ e) (best-take (h .near) lv o (λ la. omega (arith, h .some la))))
-      (λ o. absurd (lt-irrefl key (omega (arith, ek ∙ far o, under)))))
+      (λ o. absurd (lt-irrefl key (omega (arith, ek .no o, under)))))
       (λ l.
       let q = r .kept l in
       on-same (getD m v 0) 1
       (λ o.
-      let e : k ≡ getD d v 0 = ek ∙ rw (eq-eqb (getD m v 0) 1 o) in
+      let e : k ≡ getD d v 0 = ek .yes o in
       on-below at n
       (λ la. held (q .0) (q .1) (best-keep (h .near) la (omega (arith, h .some la))))
       (λ la. absurd (lt-irrefl key (omega (arith, h .none la, small v lv o)))))
       (λ o. held (q .0) (q .1) (best-skip (h .near) o)))
     where
-      far : (getD m v 0 ≡ 1 → ⊥) → cond (eqb (getD m v 0) 1) (getD d v 0) 9223372036854775808 ≡ 9223372036854775808
-      far o = rw (ne-eqb (getD m v 0) 1 o)
-
       taken : next ≡ v → least ≡ getD d v 0 → Nearest n m d (v + 1) v → Picking n m d (v + 1) next least
       taken e q b = record {
         near = subst (λ (i : ℕ). Nearest n m d (v + 1) i) (sym e) b;

@@ -55,9 +55,14 @@ pub record Nearest (n : ℕ) (m d : List ℕ) (j b : ℕ) : Type 0 where
   pub none : n ≤ b → (v : ℕ) → v < j → getD m v 0 ≡ 1 → ⊥
   pub least : b < n → (v : ℕ) → v < j → getD m v 0 ≡ 1 → getD d b 0 ≤ getD d v 0
 
--- the key of a labelled number; above every key of a number that is not labelled or is settled
-unfoldable pub openKey : ℕ → ℕ → ℕ
-openKey mark key = cond (eqb mark 1) key 9223372036854775808
+-- 0 for the mark of a labelled number, above every key for any other
+unfoldable pub farKey : ℕ → ℕ
+farKey mark = cond (eqb mark 1) 0 9223372036854775808
+
+-- the key of a labelled number; above every key where it is not labelled or is settled
+pub record Open (mark key r : ℕ) : Type 0 where
+  pub yes : mark ≡ 1 → r ≡ key
+  pub no : (mark ≡ 1 → ⊥) → 9223372036854775808 ≤ r
 
 -- of a number and the number v, each with its key, the one of the lesser key, the first on a tie
 pub record Nearer (at key v k next least : ℕ) : Type 0 where

@@ -2,7 +2,7 @@
 ghost use mathlib.Core.Path.{_≡_};
 ghost use Prim.Native.Nat.{ℕ, _+_, _*_, _<_, _≤_};
 ghost use lib.ListN.{length, getD};
-ghost use Rattle.distance.specs.Labels.{openKey, Nearer, Nearest, Relaxed, Shortest};
+ghost use Rattle.distance.specs.Labels.{farKey, Open, Nearer, Nearest, Relaxed, Shortest};
 ghost use Rattle.distance.specs.Cost.{stepIn, keyIn, stepBack, costBack, keyBack, One};
 ghost use Rattle.distance.specs.Path.{tightb, hop};
 ghost use Rattle.distance.specs.Descent.{Descended, Pair};
@@ -13,14 +13,25 @@ struct Near {
     key: u64,
 }
 
-// The key of a labelled number; above every key where the mark says that it is not labelled or is settled.
-fn open_key(mark: u8, key: u64) -> u64
-    ensures { λ r. ⌜ r ≡ openKey mark key ⌝ }
+// 0 for the mark of a labelled number, above every key for any other.
+fn far(mark: u8) -> u64
+    ensures { λ r. ⌜ r ≡ farKey mark ⌝ }
 {
     if mark == 1 {
-        return key;
+        return 0;
     }
     9223372036854775808
+}
+
+// The key of a labelled number; above every key where it is not labelled or is settled.
+fn open_key(mark: u8, key: u64) -> u64
+    ensures { λ r. ⌜ Open mark key r ⌝ }
+{
+    let f = far(mark);
+    if key < f {
+        return f;
+    }
+    key
 }
 
 // The nearer of the nearest so far and v.
