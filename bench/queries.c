@@ -34,6 +34,8 @@ reply timed_get_endpoints(T, OUT);
 reply timed_is_k_uniform(T, size_t k);
 reply timed_get_inclusions(T, OUT);
 reply timed_get_nestedness_profile(T, OUT);
+reply timed_get_dijkstra_connections_with_cost(T, uint32_t from, uint32_t to, OUT);
+reply timed_get_dijkstra_from(T, uint32_t vertex, OUT);
 reply timed_random_walk(T, uint32_t start, size_t steps, uint64_t seed, OUT);
 reply timed_write_frames(T, uint8_t *text, size_t text_bytes);
 
@@ -91,6 +93,8 @@ int main(void) {
     QUERY("nestedness_profile", 1500000, timed_get_nestedness_profile(full, WORDS, out, ROOM));
     QUERY_ON("inclusions", "nested lists", 1500000, timed_get_inclusions(nested, WORDS, out, ROOM));
     QUERY_ON("nestedness_profile", "nested lists", 1500000, timed_get_nestedness_profile(nested, WORDS, out, ROOM));
+    QUERY("dijkstra_connections_with_cost", 120000, timed_get_dijkstra_connections_with_cost(full, WORDS, 0, 255, out, ROOM));
+    QUERY("dijkstra_from", 120000, timed_get_dijkstra_from(full, WORDS, 0, out, ROOM));
     QUERY("write_frames", 200000, timed_write_frames(full, WORDS, text, sizeof text));
     QUERY("random_walk of 4,096 steps", 2500000, timed_random_walk(full, WORDS, 0, 4096, 1, out, ROOM));
     return 0;

@@ -10,40 +10,68 @@ use lib.ListN.{length, getD, set, length-set}
 use lib.Seq.{set-getD}
 use borrow.Author.Tests.{eq-eqb, ne-eqb, lt-ltb, le-ltb}
 use Rattle.distance.proofs.Labels.{live-le, live-more, labels-more, shortest}
-use Rattle.distance.specs.Labels.{relM, relD, Relaxed, Labels, live, Best, Shortest}
+use Rattle.distance.specs.Labels.{relM, relD, Relaxed, Labels, live, Nearest, Shortest}
 use Rattle.lists.proofs.Cases.{clash}
 use Rattle.lists.proofs.Store.{store-more, store-rest}
-use Rattle.distance.specs.Cost.{One, Part, Search}
+use Rattle.distance.specs.Cost.{choiceIn, stepIn, costIn, keyIn, One, Part, Search}
 
 module _ (E : ℕ → ℕ → Bool) (W : ℕ → ℕ → ℕ) (u v base : ℕ) (m d : List ℕ) where
-  pub one-none : E u v ≡ false → One E W u v base m d m d
+  one-none : E u v ≡ false → One E W u v base m d m d
   one-none e = record { bounded = λ t. clash t e; marks = rw e (sym (set-getD m v 0)); keys = rw e (sym (set-getD d v 0)) }
 
   module _ (t : E u v ≡ true) (small : W u v ≤ 281474976710656) (c : ℕ) (is : c ≡ base + W u v) where
-    pub one-fresh : getD m v 0 ≡ 0 → One E W u v base m d (set m v 1) (set d v c)
+    one-fresh : getD m v 0 ≡ 0 → One E W u v base m d (set m v 1) (set d v c)
     one-fresh z =
         let q = eq-eqb (getD m v 0) 0 z in
         record { bounded = λ _. small; marks = rw (t, q); keys = rw (t, q, ← is) }
 
-    pub one-settled : (getD m v 0 ≡ 0 → ⊥) → (getD m v 0 ≡ 1 → ⊥) → One E W u v base m d m d
+    one-settled : (getD m v 0 ≡ 0 → ⊥) → (getD m v 0 ≡ 1 → ⊥) → One E W u v base m d m d
     one-settled z o =
         let q = ne-eqb (getD m v 0) 0 z in
         let r = ne-eqb (getD m v 0) 1 o in
         record { bounded = λ _. small; marks = rw (t, q) (sym (set-getD m v 0)); keys = rw (t, q, r) (sym (set-getD d v 0)) }
 
-    pub one-shorter : (getD m v 0 ≡ 0 → ⊥) → getD m v 0 ≡ 1 → c < getD d v 0 → One E W u v base m d m (set d v c)
+    one-shorter : (getD m v 0 ≡ 0 → ⊥) → getD m v 0 ≡ 1 → c < getD d v 0 → One E W u v base m d m (set d v c)
     one-shorter z o l =
         let q = ne-eqb (getD m v 0) 0 z in
         let r = eq-eqb (getD m v 0) 1 o in
         let k = lt-ltb c (getD d v 0) l in
         record { bounded = λ _. small; marks = rw (t, q) (sym (set-getD m v 0)); keys = rw (← is, t, q, r, k) }
 
-    pub one-kept : (getD m v 0 ≡ 0 → ⊥) → getD m v 0 ≡ 1 → getD d v 0 ≤ c → One E W u v base m d m d
+    one-kept : (getD m v 0 ≡ 0 → ⊥) → getD m v 0 ≡ 1 → getD d v 0 ≤ c → One E W u v base m d m d
     one-kept z o l =
         let q = ne-eqb (getD m v 0) 0 z in
         let r = eq-eqb (getD m v 0) 1 o in
         let k = le-ltb c (getD d v 0) l in
         record { bounded = λ _. small; marks = rw (t, q) (sym (set-getD m v 0)); keys = rw (← is, t, q, r, k) (sym (set-getD d v 0)) }
+
+-- ---- for `search`: q is the cost that `cost_of` found, k the key that `by` made of it
+
+module _ (c w : List ℕ) (u v base : ℕ) (m d : List ℕ) where
+  pub relax-none : choiceIn c u v ≡ 0 → One (stepIn c) (keyIn c w) u v base m d m d
+  relax-none e = one-none (stepIn c) (keyIn c w) u v base m d (rw (eq-eqb (choiceIn c u v) 0 e))
+
+  module _ (some : choiceIn c u v ≡ 0 → ⊥) (q : ℕ) (eq : q ≡ costIn c w u v) (k : ℕ) (ek : (k ≡ base + (q * 65536 + 1)) × (q * 65536 + 1 ≤ 281474976710656)) where
+    there : stepIn c u v ≡ true
+    there = rw (ne-eqb (choiceIn c u v) 0 some)
+
+    small : keyIn c w u v ≤ 281474976710656
+    small = omega (arith, eq, ek .1)
+
+    sums : k ≡ base + keyIn c w u v
+    sums = ek .0 ∙ ap (λ (i : ℕ). base + (i * 65536 + 1)) eq
+
+    pub relax-fresh : getD m v 0 ≡ 0 → One (stepIn c) (keyIn c w) u v base m d (set m v 1) (set d v k)
+    relax-fresh z = one-fresh (stepIn c) (keyIn c w) u v base m d there small k sums z
+
+    pub relax-settled : (getD m v 0 ≡ 0 → ⊥) → (getD m v 0 ≡ 1 → ⊥) → One (stepIn c) (keyIn c w) u v base m d m d
+    relax-settled z o = one-settled (stepIn c) (keyIn c w) u v base m d there small k sums z o
+
+    pub relax-shorter : (getD m v 0 ≡ 0 → ⊥) → getD m v 0 ≡ 1 → k < getD d v 0 → One (stepIn c) (keyIn c w) u v base m d m (set d v k)
+    relax-shorter z o l = one-shorter (stepIn c) (keyIn c w) u v base m d there small k sums z o l
+
+    pub relax-kept : (getD m v 0 ≡ 0 → ⊥) → getD m v 0 ≡ 1 → getD d v 0 ≤ k → One (stepIn c) (keyIn c w) u v base m d m d
+    relax-kept z o l = one-kept (stepIn c) (keyIn c w) u v base m d there small k sums z o l
 
 pub part-first : {E : ℕ → ℕ → Bool} {W : ℕ → ℕ → ℕ} {n u : ℕ} {m d : List ℕ} → length m ≡ 256 → length d ≡ 256 → Part E W n u m d 0 m d
 part-first a b = record {
@@ -98,7 +126,11 @@ module _ {E : ℕ → ℕ → Bool} {W : ℕ → ℕ → ℕ} {n s : ℕ} {m d :
       pub search-less : live n m′ < live n m
       search-less = omega (arith, fewer)
 
-      pub search-more : {u′ : ℕ} → Best n m′ d′ n u′ → Search E W n s m′ d′ u′
+      -- every label is under the bound of `pick`
+      pub search-under : (v : ℕ) → v < n → getD m′ v 0 ≡ 1 → getD d′ v 0 < 9223372036854775808
+      search-under v l o = omega (arith, labels-more (h .0) small ls lu (h .1 .some lu) (h .1 .least lu) x .bound v l (λ z. lt-irrefl 0 (omega (arith, z, o))))
+
+      pub search-more : {u′ : ℕ} → Nearest n m′ d′ n u′ → Search E W n s m′ d′ u′
       search-more b =
           let e : (n - live n m) * 281474976710656 + 281474976710656 ≡ (n - live n m′) * 281474976710656 = omega (arith, fewer, live-le n m) in
           let f : suc (n - live n m) ≡ n - live n m′ = omega (arith, fewer, live-le n m) in

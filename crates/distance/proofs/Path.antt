@@ -17,7 +17,8 @@ use Rattle.lists.proofs.Cases.{on, on-same, clash}
 use Rattle.order.proofs.Least.{least-hit, least-le}
 use Rattle.order.specs.Least.{least}
 use Rattle.order.specs.Sort.{LexLe}
-use Rattle.distance.specs.Path.{Walk, total, Best, key, tightb, hop, path}
+use Rattle.distance.specs.Best.{Walk, total, Best}
+use Rattle.distance.specs.Path.{key, tightb, hop, path}
 
 pub key-total : (W : ℕ → ℕ → ℕ) (x : ℕ) (l : List ℕ) → total (key W) x l ≡ total W x l * 65536 + length l
 key-total W x [] = refl
@@ -28,13 +29,13 @@ module _ (E : ℕ → ℕ → Bool) (W : ℕ → ℕ → ℕ) (n y : ℕ) where
   abbrev Back : ℕ → ℕ → ℕ → Type 0
   Back = Way (Edge (λ a b. E b a) n) (λ a b. W b a) y
 
-  way-walk : {x k j : ℕ} → Back x k j → (l : List ℕ) × (Walk E n x l y) × (total W x l ≡ k) × (length l ≡ j)
+  way-walk : {x k j : ℕ} → Back x k j → (l : List ℕ) × (Walk (Edge E n) x l y) × (total W x l ≡ k) × (length l ≡ j)
   way-walk here = ([], refl, refl, refl)
   way-walk (step {y = a} {z = z} {k = k} {j = j} w e) =
       let r = way-walk w in
       (a ∷ r .0, ((e .1, e .0, e .2), r .1), omega (arith, r .2), ap suc (r .3))
 
-  walk-way : (x : ℕ) (l : List ℕ) → Walk E n x l y → Back x (total W x l) (length l)
+  walk-way : (x : ℕ) (l : List ℕ) → Walk (Edge E n) x l y → Back x (total W x l) (length l)
   walk-way x [] e = subst (λ (z : ℕ). Back z 0 0) (sym e) here
   walk-way x (v ∷ l) w =
       subst (λ (k : ℕ). Back x k (suc (length l))) (add-comm (total W v l) (W x v)) (step (walk-way v l (w .1)) (w .0 .1, w .0 .0, w .0 .2))
@@ -66,11 +67,11 @@ and-right true b e = e
 and-right false b e = clash e refl
 
 module _ (E : ℕ → ℕ → Bool) (W : ℕ → ℕ → ℕ) (n y : ℕ) (m d : List ℕ) (small : n ≤ 256) (h : Shortest (λ a b. E b a) (λ a b. key W b a) n y m d) where
-  pub under : (x : ℕ) (l : List ℕ) → Walk E n x l y → (getD m x 0 ≡ 2) × (getD d x 0 ≤ total (key W) x l)
+  pub under : (x : ℕ) (l : List ℕ) → Walk (Edge E n) x l y → (getD m x 0 ≡ 2) × (getD d x 0 ≤ total (key W) x l)
   under x l w = h .least x (total (key W) x l) (length l) (walk-way E (key W) n y x l w)
 
   -- a walk of the key of x
-  real : (x : ℕ) → x < n → getD m x 0 ≡ 2 → (l : List ℕ) × (Walk E n x l y) × (total (key W) x l ≡ getD d x 0) × (length l ≤ n)
+  real : (x : ℕ) → x < n → getD m x 0 ≡ 2 → (l : List ℕ) × (Walk (Edge E n) x l y) × (total (key W) x l ≡ getD d x 0) × (length l ≤ n)
   real x lx t =
       let w = h .way x lx t in
       let r = way-walk E (key W) n y (w .2) in
@@ -114,9 +115,9 @@ module _ (E : ℕ → ℕ → Bool) (W : ℕ → ℕ → ℕ) (n y : ℕ) (m d :
 
   -- the path is a walk of the key, and no other walk of the key has a smaller list
   abbrev Good : ℕ → List ℕ → List ℕ → Type 0
-  Good x p k = Walk E n x p y × (total (key W) x p ≡ getD d x 0) × LexLe p k
+  Good x p k = Walk (Edge E n) x p y × (total (key W) x p ≡ getD d x 0) × LexLe p k
 
-  path-good : (f x : ℕ) (k : List ℕ) → Walk E n x k y → total (key W) x k ≡ getD d x 0 → length k ≤ f → length k ≤ 256 → Good x (path E (key W) n m d f x) k
+  path-good : (f x : ℕ) (k : List ℕ) → Walk (Edge E n) x k y → total (key W) x k ≡ getD d x 0 → length k ≤ f → length k ≤ 256 → Good x (path E (key W) n m d f x) k
   path-good zero x [] w e l b = subst (λ (p : List ℕ). Good x p []) (sym (path-none E (key W) n m d zero x (sym e))) (w, e, tt)
   path-good zero x (v ∷ k) w e l b = absurd (lt-irrefl 0 (omega arith))
   path-good (suc f) x [] w e l b = subst (λ (p : List ℕ). Good x p []) (sym (path-none E (key W) n m d (suc f) x (sym e))) (w, e, tt)
@@ -135,14 +136,14 @@ module _ (E : ℕ → ℕ → Bool) (W : ℕ → ℕ → ℕ) (n y : ℕ) (m d :
       subst (λ (p : List ℕ). Good x p (v ∷ k)) (sym (path-more E (key W) n m d f x (λ z. lt-irrefl 0 (omega arith)) lu))
       (on-same u v
       (λ s.
-      let g = path-good f u k (subst (λ (i : ℕ). Walk E n i k y) (sym s) (w .1)) (omega (arith, ap (λ (i : ℕ). total (key W) i k) s, ap (λ (i : ℕ). getD d i 0) s, uv .1)) (omega arith) (omega arith) in
+      let g = path-good f u k (subst (λ (i : ℕ). Walk (Edge E n) i k y) (sym s) (w .1)) (omega (arith, ap (λ (i : ℕ). total (key W) i k) s, ap (λ (i : ℕ). getD d i 0) s, uv .1)) (omega arith) (omega arith) in
       (((w .0 .0, lu, t .0), g .0), omega (arith, g .1, t .2), inr (s, g .2)))
       (λ ne.
       let g = path-good f u (r .0) (r .1) (r .2) (omega arith) (omega arith) in
       (((w .0 .0, lu, t .0), g .0), omega (arith, g .1, t .2), inl (omega arith))))
 
   -- cost first, then steps: the key of x against any walk
-  pairs : (x : ℕ) (k : List ℕ) → Walk E n x k y → (a s : ℕ) → getD d x 0 ≡ a * 65536 + s → s ≤ 256 → (a < total W x k) ⊎ ((a ≡ total W x k) × (s ≤ length k))
+  pairs : (x : ℕ) (k : List ℕ) → Walk (Edge E n) x k y → (a s : ℕ) → getD d x 0 ≡ a * 65536 + s → s ≤ 256 → (a < total W x k) ⊎ ((a ≡ total W x k) × (s ≤ length k))
   pairs x [] w a s e b =
       let z = under x [] w .1 in
       inr (omega (arith, z), omega (arith, z))
@@ -158,7 +159,7 @@ module _ (E : ℕ → ℕ → Bool) (W : ℕ → ℕ → ℕ) (n y : ℕ) (m d :
       (λ ne. inl (omega (arith, c .0, r .2, r .3))))
       (pairs v k (w .1) (total W v (r .0)) (length (r .0)) (sym (r .2) ∙ q) (omega (arith, r .3)))
 
-  pub path-best : (x : ℕ) → x < n → getD m x 0 ≡ 2 → Best E W n x y (path E (key W) n m d n x)
+  pub path-best : (x : ℕ) → x < n → getD m x 0 ≡ 2 → Best (Edge E n) W x y (path E (key W) n m d n x)
   path-best x lx t =
       let r = real x lx t in
       let p : List ℕ = path E (key W) n m d n x in
@@ -184,3 +185,10 @@ module _ (E : ℕ → ℕ → Bool) (W : ℕ → ℕ → ℕ) (n y : ℕ) (m d :
             ))
             (pairs x k w (total W x (r .0)) (length (r .0)) (sym (r .2) ∙ q₂) (omega (arith, r .3)));
       }
+
+  -- the key of x is that of its path
+  pub path-key : (x : ℕ) → x < n → getD m x 0 ≡ 2 → getD d x 0 ≡ total W x (path E (key W) n m d n x) * 65536 + length (path E (key W) n m d n x)
+  path-key x lx t =
+      let r = real x lx t in
+      let g : Good x (path E (key W) n m d n x) (r .0) = path-good n x (r .0) (r .1) (r .2) (r .3) (omega (arith, r .3)) in
+      sym (g .1) ∙ key-total W x (path E (key W) n m d n x)

@@ -1,14 +1,38 @@
--- A step's key: its cost, and in the low 16 bits one step. Assumes nothing.
+-- The costs of steps: which step there is and what it costs, as the matrix of choices holds them; a step's key. Assumes nothing.
 use mathlib.Core.Path.{_≡_}
-use mathlib.Core.Bool.{Bool, true}
+use mathlib.Core.Bool.{Bool, true, not}
 use mathlib.Core.List.{List}
 use Prim.Native.Nat.{ℕ, _+_, _-_, _*_, _≤_, _<_}
+use lib.Dec.{eqb}
 use lib.ListN.{length, getD, set}
-use Rattle.distance.specs.Labels.{relM, relD, Labels, live, Best}
+use Rattle.distance.specs.Labels.{relM, relD, Labels, live, Nearest}
 
-abbrev pub keyOf : List ℕ → ℕ → ℕ → ℕ
-keyOf w u v = getD w (u * 256 + v) 0 * 65536 + 1
+-- what the matrix c chose for the step from u to v: 0 where there is no such step
+abbrev pub choiceIn : List ℕ → ℕ → ℕ → ℕ
+choiceIn c u v = getD c (u * 256 + v) 0
 
+abbrev pub stepIn : List ℕ → ℕ → ℕ → Bool
+stepIn c u v = not (eqb (choiceIn c u v) 0)
+
+-- the cost of the step: w has the cost of each choice
+abbrev pub costIn : List ℕ → List ℕ → ℕ → ℕ → ℕ
+costIn c w u v = getD w (choiceIn c u v) 0
+
+-- a step's key: its cost, and in the low 16 bits one step
+abbrev pub keyIn : List ℕ → List ℕ → ℕ → ℕ → ℕ
+keyIn c w u v = costIn c w u v * 65536 + 1
+
+-- the same against the steps' direction
+abbrev pub stepBack : List ℕ → ℕ → ℕ → Bool
+stepBack c x v = stepIn c v x
+
+abbrev pub costBack : List ℕ → List ℕ → ℕ → ℕ → ℕ
+costBack c w x v = costIn c w v x
+
+abbrev pub keyBack : List ℕ → List ℕ → ℕ → ℕ → ℕ
+keyBack c w x v = keyIn c w v x
+
+-- what the step from the settled number u does to the mark and the key of v
 pub record One (E : ℕ → ℕ → Bool) (W : ℕ → ℕ → ℕ) (u v base : ℕ) (m d m′ d′ : List ℕ) : Type 0 where
   pub bounded : E u v ≡ true → W u v ≤ 281474976710656
   pub marks : m′ ≡ set m v (relM (E u v) (getD m v 0))
@@ -27,4 +51,4 @@ pub record Part (E : ℕ → ℕ → Bool) (W : ℕ → ℕ → ℕ) (n u : ℕ)
 
 -- the search: every settled number adds a step's bound
 abbrev pub Search : (ℕ → ℕ → Bool) → (ℕ → ℕ → ℕ) → ℕ → ℕ → List ℕ → List ℕ → ℕ → Type 0
-Search E W n s m d u = Labels E W n s ((n - live n m) * 281474976710656) (n - live n m) m d × Best n m d n u
+Search E W n s m d u = Labels E W n s ((n - live n m) * 281474976710656) (n - live n m) m d × Nearest n m d n u

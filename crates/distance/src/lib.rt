@@ -1,41 +1,72 @@
+// The distance: the least total of the steps' costs, and the fewest steps of that total, from a start to each number; and the best walk between two.
 ghost use mathlib.Core.Path.{_≡_};
 ghost use Prim.Native.Nat.{ℕ, _+_, _*_, _<_, _≤_};
-ghost use lib.ListN.{length, getD, take};
-ghost use Rattle.graph.specs.Reach.{matrix};
-ghost use Rattle.distance.specs.Labels.{Best, Relaxed, Shortest};
-ghost use Rattle.distance.specs.Cost.{keyOf, One};
-ghost use Rattle.distance.specs.Path.{tightb, hop, path};
-ghost use Rattle.distance.specs.Descent.{Pair, weight};
+ghost use lib.ListN.{length, getD};
+ghost use Rattle.distance.specs.Labels.{farKey, Open, Nearer, Nearest, Relaxed, Shortest};
+ghost use Rattle.distance.specs.Cost.{stepIn, keyIn, stepBack, costBack, keyBack, One};
+ghost use Rattle.distance.specs.Path.{tightb, hop};
+ghost use Rattle.distance.specs.Descent.{Descended, Pair};
 
-// The better of the best so far and v.
-fn better(n: usize, m: &[u8; 256], d: &[u64; 256], best: usize, v: usize) -> usize
-    requires { ⌜ (n ≤ 256) × (v < n) × Best n (now m) (now d) v best ⌝ }
-    ensures { λ r. ⌜ Best n (now (m .entry)) (now (d .entry)) (v + 1) r ⌝ }
+// The nearest number so far, and its key.
+struct Near {
+    at: usize,
+    key: u64,
+}
+
+// 0 for the mark of a labelled number, above every key for any other.
+fn far(mark: u8) -> u64
+    ensures { λ r. ⌜ r ≡ farKey mark ⌝ }
 {
-    if m[v] != 1 {
-        return best;
+    if mark == 1 {
+        return 0;
     }
-    if n <= best {
-        return v;
+    9223372036854775808
+}
+
+// The key of a labelled number; above every key where it is not labelled or is settled.
+fn open_key(mark: u8, key: u64) -> u64
+    ensures { λ r. ⌜ Open mark key r ⌝ }
+{
+    let f = far(mark);
+    if key < f {
+        return f;
     }
-    if d[v] < d[best] {
-        return v;
+    key
+}
+
+// The nearer of the nearest so far and v.
+fn nearer(p: Near, v: usize, key: u64) -> Near
+    ensures { λ r. ⌜ Nearer (p .at) (p .key) v key (r .at) (r .key) ⌝ }
+{
+    if key < p.key {
+        return Near { at: v, key: key };
     }
-    best
+    p
 }
 
 // The labelled number of least key, or n.
 fn pick(n: usize, m: &[u8; 256], d: &[u64; 256]) -> usize
-    requires { ⌜ n ≤ 256 ⌝ }
-    ensures { λ r. ⌜ Best n (now (m .entry)) (now (d .entry)) n r ⌝ }
+    requires { ⌜ (n ≤ 256) × ((v : ℕ) → v < n → getD (now m) v 0 ≡ 1 → getD (now d) v 0 < 9223372036854775808) ⌝ }
+    ensures { λ r. ⌜ Nearest n (now (m .entry)) (now (d .entry)) n r ⌝ }
 {
-    let mut best = n;
+    let mut p = Near {
+        at: n,
+        key: 9223372036854775808,
+    };
     let mut v = 0;
     while v < n {
-        best = better(n, m, d, best, v);
+        let next = nearer(p, v, open_key(m[v], d[v]));
+        p = next;
         v += 1;
     }
-    best
+    p.at
+}
+
+// The cost of choice h.
+fn cost_of(w: &[u32; 256], h: u8) -> u32
+    ensures { λ r. ⌜ r ≡ getD (now (w .entry)) h 0 ⌝ }
+{
+    w[h as usize]
 }
 
 // The key by way of a step of cost w.
@@ -46,118 +77,103 @@ fn by(base: u64, w: u32) -> u64
     base + (w as u64) * 65536 + 1
 }
 
+// The step from the settled number u to v, where there is one.
 fn relax_one(
-    adj: &[u8; 65536],
-    w: &[u32; 65536],
-    n: usize,
+    c: &[u8; 65536],
+    w: &[u32; 256],
     u: usize,
     v: usize,
     base: u64,
     m: &mut [u8; 256],
     d: &mut [u64; 256],
 )
-    requires { ⌜ (n ≤ 256) × (u < n) × (v < n) × (base ≤ 144115188075855872) ⌝ }
-    ensures { λ r. ⌜ One (matrix (now (adj .entry))) (keyOf (now (w .entry))) u v base (now (m .entry)) (now (d .entry)) (now (m .exit)) (now (d .exit)) ⌝ }
+    requires { ⌜ (u < 256) × (v < 256) × (base ≤ 144115188075855872) ⌝ }
+    ensures { λ r. ⌜ One (stepIn (now (c .entry))) (keyIn (now (c .entry)) (now (w .entry))) u v base (now (m .entry)) (now (d .entry)) (now (m .exit)) (now (d .exit)) ⌝ }
 {
-    let at = u * 256 + v;
-    if adj[at] != 1 {
+    let h = c[u * 256 + v];
+    if h == 0 {
         return;
     }
-    let c = by(base, w[at]);
+    let key = by(base, cost_of(w, h));
     if m[v] == 0 {
         m[v] = 1;
-        d[v] = c;
+        d[v] = key;
         return;
     }
     if m[v] != 1 {
         return;
     }
-    if c < d[v] {
-        d[v] = c;
+    if key < d[v] {
+        d[v] = key;
     }
 }
 
 // The steps of the settled number u.
-fn relax(
-    adj: &[u8; 65536],
-    w: &[u32; 65536],
-    n: usize,
-    u: usize,
-    m: &mut [u8; 256],
-    d: &mut [u64; 256],
-)
+fn relax(c: &[u8; 65536], w: &[u32; 256], n: usize, u: usize, m: &mut [u8; 256], d: &mut [u64; 256])
     requires { ⌜ (n ≤ 256) × (u < n) × (length (now m) ≡ 256) × (length (now d) ≡ 256) × (getD (now d) u 0 ≤ 144115188075855872) ⌝ }
-    ensures { λ r. ⌜ Relaxed (matrix (now (adj .entry))) (keyOf (now (w .entry))) 281474976710656 n u (now (m .entry)) (now (d .entry)) (now (m .exit)) (now (d .exit)) ⌝ }
+    ensures { λ r. ⌜ Relaxed (stepIn (now (c .entry))) (keyIn (now (c .entry)) (now (w .entry))) 281474976710656 n u (now (m .entry)) (now (d .entry)) (now (m .exit)) (now (d .exit)) ⌝ }
 {
     let base = d[u];
     let mut v = 0;
     while v < n {
-        relax_one(adj, w, n, u, v, base, m, d);
+        relax_one(c, w, u, v, base, m, d);
         v += 1;
     }
 }
 
 // The least key of a walk from s to each number: where a mark is 2.
 pub fn dijkstra(
-    adj: &[u8; 65536],
-    w: &[u32; 65536],
+    c: &[u8; 65536],
+    w: &[u32; 256],
     n: usize,
     s: usize,
     m: &mut [u8; 256],
     d: &mut [u64; 256],
 )
     requires { ⌜ (n ≤ 256) × (s < n) × (length (now m) ≡ 256) × (length (now d) ≡ 256) × ((v : ℕ) → v < n → getD (now m) v 0 ≡ 0) ⌝ }
-    ensures { λ r. ⌜ Shortest (matrix (now (adj .entry))) (keyOf (now (w .entry))) n s (now (m .exit)) (now (d .exit)) ⌝ }
+    ensures { λ r. ⌜ Shortest (stepIn (now (c .entry))) (keyIn (now (c .entry)) (now (w .entry))) n s (now (m .exit)) (now (d .exit)) ⌝ }
 {
     m[s] = 1;
     d[s] = 0;
     let mut u = pick(n, m, d);
     while u < n {
         m[u] = 2;
-        relax(adj, w, n, u, m, d);
+        relax(c, w, n, u, m, d);
         u = pick(n, m, d);
     }
 }
 
-// Whether the step from x to v keeps to a least key.
-fn tight(
-    adj: &[u8; 65536],
-    w: &[u32; 65536],
-    m: &[u8; 256],
-    d: &[u64; 256],
-    n: usize,
-    x: usize,
-    v: usize,
-) -> bool
-    requires { ⌜ (n ≤ 256) × (x < n) × (v < n) × (getD (now m) v 0 ≡ 2 → getD (now d) v 0 ≤ 72057594037927936) ⌝ }
-    ensures { λ r. ⌜ r ≡ tightb (matrix (now (adj .entry))) (keyOf (now (w .entry))) (now (m .entry)) (now (d .entry)) x v ⌝ }
+// Whether the step from x to v keeps to a least key: the matrix holds the steps against their direction.
+fn tight(c: &[u8; 65536], w: &[u32; 256], m: &[u8; 256], d: &[u64; 256], x: usize, v: usize) -> bool
+    requires { ⌜ (x < 256) × (v < 256) × (getD (now m) v 0 ≡ 2 → getD (now d) v 0 ≤ 72057594037927936) ⌝ }
+    ensures { λ r. ⌜ r ≡ tightb (stepBack (now (c .entry))) (keyBack (now (c .entry)) (now (w .entry))) (now (m .entry)) (now (d .entry)) x v ⌝ }
 {
-    let at = x * 256 + v;
-    if adj[at] != 1 {
+    let h = c[v * 256 + x];
+    if h == 0 {
         return false;
     }
     if m[v] != 2 {
         return false;
     }
-    let c = by(d[v], w[at]);
-    d[x] == c
+    let key = by(d[v], cost_of(w, h));
+    d[x] == key
 }
 
 // The smallest number with such a step, or n.
 fn hop_from(
-    adj: &[u8; 65536],
-    w: &[u32; 65536],
+    c: &[u8; 65536],
+    w: &[u32; 256],
     m: &[u8; 256],
     d: &[u64; 256],
     n: usize,
     x: usize,
 ) -> usize
     requires { ⌜ (n ≤ 256) × (x < n) × ((v : ℕ) → v < n → getD (now m) v 0 ≡ 2 → getD (now d) v 0 ≤ 72057594037927936) ⌝ }
-    ensures { λ r. ⌜ r ≡ hop (matrix (now (adj .entry))) (keyOf (now (w .entry))) n (now (m .entry)) (now (d .entry)) x ⌝ }
+    ensures { λ r. ⌜ r ≡ hop (stepBack (now (c .entry))) (keyBack (now (c .entry)) (now (w .entry))) n (now (m .entry)) (now (d .entry)) x ⌝ }
 {
     let mut v = 0;
     while v < n {
-        if tight(adj, w, m, d, n, x, v) {
+        if tight(c, w, m, d, x, v) {
             return v;
         }
         v += 1;
@@ -165,10 +181,10 @@ fn hop_from(
     v
 }
 
-// The path from x, in the first places of `out`.
+// The walk from x down the keys, in the first places of `out`.
 fn descend(
-    adj: &[u8; 65536],
-    w: &[u32; 65536],
+    c: &[u8; 65536],
+    w: &[u32; 256],
     m: &[u8; 256],
     d: &[u64; 256],
     n: usize,
@@ -176,7 +192,7 @@ fn descend(
     out: &mut [u32; 256],
 ) -> usize
     requires { ⌜ (n ≤ 256) × (x < n) × (length (now out) ≡ 256) × ((v : ℕ) → v < n → getD (now m) v 0 ≡ 2 → getD (now d) v 0 ≤ 72057594037927936) ⌝ }
-    ensures { λ r. ⌜ take r (now (out .exit)) ≡ path (matrix (now (adj .entry))) (keyOf (now (w .entry))) n (now (m .entry)) (now (d .entry)) n x ⌝ }
+    ensures { λ r. ⌜ Descended (stepBack (now (c .entry))) (keyBack (now (c .entry)) (now (w .entry))) n (now (m .entry)) (now (d .entry)) x r (now (out .exit)) ⌝ }
 {
     let mut at = 0;
     let mut u = x;
@@ -184,7 +200,7 @@ fn descend(
         if d[u] == 0 {
             return at;
         }
-        let next = hop_from(adj, w, m, d, n, u);
+        let next = hop_from(c, w, m, d, n, u);
         if n <= next {
             return at;
         }
@@ -195,33 +211,39 @@ fn descend(
     at
 }
 
-pub struct Found {
+// Whether there is a walk; its steps, and the total of their costs.
+pub struct Walked {
     pub ok: bool,
-    pub len: usize,
+    pub steps: usize,
+    pub cost: u64,
 }
 
-// The path from x to y: least cost, then fewest steps, then the smallest list. `turned` and `costs` are the matrices of the turned graph.
-pub fn pair_path(
-    adj: &[u8; 65536],
-    w: &[u32; 65536],
-    turned: &[u8; 65536],
-    costs: &[u32; 65536],
+// The best walk from x to y, in the first places of `out`: the matrix holds the steps against their direction.
+pub fn best_walk(
+    c: &[u8; 65536],
+    w: &[u32; 256],
     n: usize,
     x: usize,
     y: usize,
     out: &mut [u32; 256],
-) -> Found
+) -> Walked
     requires { ⌜ (n ≤ 256) × (x < n) × (y < n) × (length (now out) ≡ 256) ⌝ }
-    requires { ⌜ ((a b : ℕ) → a < n → b < n → matrix (now turned) a b ≡ matrix (now adj) b a) ⌝ }
-    requires { ⌜ ((a b : ℕ) → a < n → b < n → keyOf (now costs) a b ≡ keyOf (now w) b a) ⌝ }
-    ensures { λ r. ⌜ Pair (matrix (now (adj .entry))) (weight (now (w .entry))) n x y (r .ok) (take (r .len) (now (out .exit))) ⌝ }
+    ensures { λ r. ⌜ Pair (stepBack (now (c .entry))) (costBack (now (c .entry)) (now (w .entry))) n x y (r .ok) (r .cost) (r .steps) (now (out .exit)) ⌝ }
 {
     let mut m = [0u8; 256];
     let mut d = [0u64; 256];
-    dijkstra(turned, costs, n, y, &mut m, &mut d);
+    dijkstra(c, w, n, y, &mut m, &mut d);
     if m[x] != 2 {
-        return Found { ok: false, len: 0 };
+        return Walked {
+            ok: false,
+            steps: 0,
+            cost: 0,
+        };
     }
-    let k = descend(adj, w, &m, &d, n, x, out);
-    Found { ok: true, len: k }
+    let k = descend(c, w, &m, &d, n, x, out);
+    Walked {
+        ok: true,
+        steps: k,
+        cost: d[x] / 65536,
+    }
 }

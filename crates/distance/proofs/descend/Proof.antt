@@ -1,18 +1,17 @@
 -- `distance::descend` meets its contract. Assumes nothing.
 use Rattle.distance.proofs.Descent.{down-first, down-there, down-lost, down-short, down-more}
-use Rattle.distance.specs.Cost.{keyOf}
+use Rattle.distance.specs.Cost.{stepBack, keyBack}
 use Rattle.distance.specs.Descent.{Down}
-use Rattle.graph.specs.Reach.{matrix}
 use native.Mathlib.Omega.{arith}
 use Prim.Native.Nat.{_-_}
 use Rattle.distance.proofs.descend.Statement.{statement}
 use Rattle.distance.proofs.descend.Tie as tie
 
 abbrev Inv-loop : tie.InvT-loop
-Inv-loop adj w m d n x out₀ at₀ u₀ out at u = Down (matrix adj) (keyOf w) n m d x at u out
+Inv-loop c w m d n x out₀ at₀ u₀ out at u = Down (stepBack c) (keyBack c w) n m d x at u out
 
 abbrev μ-loop : tie.MeasureT-loop
-μ-loop adj w m d n x out₀ at₀ u₀ out at u = n - at
+μ-loop c w m d n x out₀ at₀ u₀ out at u = n - at
 
 loop-holds : tie.Need-loop-holds Inv-loop μ-loop
 loop-holds c = down-first _ _ _ _ _ _ (c .pre .1) (c .pre .2)

@@ -1,19 +1,19 @@
 -- `distance::dijkstra` meets its contract. Assumes nothing.
-use Rattle.distance.proofs.Cost.{search-end, search-fits, search-less, search-more}
+use Rattle.distance.proofs.Cost.{search-end, search-fits, search-less, search-under, search-more}
 use Rattle.distance.proofs.Labels.{labels-first}
-use Rattle.distance.specs.Cost.{keyOf, Search}
+use Rattle.distance.specs.Cost.{stepIn, keyIn, Search}
 use Rattle.distance.specs.Labels.{live}
-use Rattle.graph.specs.Reach.{matrix}
+use native.Mathlib.Nat.{lt-irrefl}
 use native.Mathlib.Omega.{arith}
 use lib.ListN.{length-set}
 use Rattle.distance.proofs.dijkstra.Statement.{statement}
 use Rattle.distance.proofs.dijkstra.Tie as tie
 
 abbrev Inv-loop : tie.InvT-loop
-Inv-loop adj w n s m₀ d₀ u₀ m d u = Search (matrix adj) (keyOf w) n s m d u
+Inv-loop c w n s m₀ d₀ u₀ m d u = Search (stepIn c) (keyIn c w) n s m d u
 
 abbrev μ-loop : tie.MeasureT-loop
-μ-loop adj w n s m₀ d₀ u₀ m d u = live n m
+μ-loop c w n s m₀ d₀ u₀ m d u = live n m
 
 element-write-m : tie.Need-element-write-m Inv-loop μ-loop
 element-write-m c = omega arith
@@ -25,7 +25,9 @@ element-write-d : tie.Need-element-write-d Inv-loop μ-loop
 element-write-d c = omega arith
 
 pick-requires : tie.Need-pick-requires Inv-loop μ-loop
-pick-requires c κs = c .before .before .pre .0
+pick-requires c κs =
+    let s = c .before .before in
+    (s .pre .0, λ v l o. omega (arith, labels-first {E = stepIn (s .args .c .now)} {W = keyIn (s .args .c .now) (s .args .w .now)} {b = 0} {r = 0} (s .args .m .now) (s .args .d .now) (s .pre .0) (s .pre .1) (s .pre .2) (s .pre .3) (s .pre .4) .bound v l (λ z. lt-irrefl 0 (omega (arith, z, o)))))
 
 loop-holds : tie.Need-loop-holds Inv-loop μ-loop
 loop-holds c =
@@ -42,7 +44,9 @@ relax-requires c κs =
     (s .pre .0, c .before .before .loop-test .taken, simp length-set (i .0 .wide), i .0 .long, search-fits i (s .pre .0) (s .pre .1) (c .before .before .loop-test .taken))
 
 pick-requires-2 : tie.Need-pick-requires-2 Inv-loop μ-loop
-pick-requires-2 c κs = c .before .before .before .before .before .before .before .before .before .before .pre .0
+pick-requires-2 c κs =
+    let s = c .before .before .before .before .before .before .before .before .before .before in
+    (s .pre .0, search-under (c .before .before .before .before .before .before .loop .inv) (s .pre .0) (s .pre .1) (c .before .before .before .before .before .loop-test .taken) (c .before .before .relax .ensures))
 
 loop-less : tie.Need-loop-less Inv-loop μ-loop
 loop-less c =

@@ -1,17 +1,16 @@
 -- `distance::relax` meets its contract. Assumes nothing.
 use Rattle.distance.proofs.Cost.{part-first, part-more, part-end}
-use Rattle.distance.specs.Cost.{keyOf, Part}
-use Rattle.graph.specs.Reach.{matrix}
+use Rattle.distance.specs.Cost.{stepIn, keyIn, Part}
 use native.Mathlib.Omega.{arith}
 use Prim.Native.Nat.{_-_}
 use Rattle.distance.proofs.relax.Statement.{statement}
 use Rattle.distance.proofs.relax.Tie as tie
 
 abbrev Inv-loop : tie.InvT-loop
-Inv-loop adj w n u m₀ d₀ base v₀ m d v = Part (matrix adj) (keyOf w) n u m₀ d₀ v m d
+Inv-loop c w n u m₀ d₀ base v₀ m d v = Part (stepIn c) (keyIn c w) n u m₀ d₀ v m d
 
 abbrev μ-loop : tie.MeasureT-loop
-μ-loop adj w n u m₀ d₀ base v₀ m d v = n - v
+μ-loop c w n u m₀ d₀ base v₀ m d v = n - v
 
 mul-base : tie.Need-mul-base Inv-loop μ-loop
 mul-base c = omega arith
@@ -23,7 +22,7 @@ loop-holds : tie.Need-loop-holds Inv-loop μ-loop
 loop-holds c = part-first (c .before .pre .2) (c .before .pre .3)
 
 relax-one-requires : tie.Need-relax-one-requires Inv-loop μ-loop
-relax-one-requires c κs = (omega arith, omega arith, omega arith, c .before .before .before .before .before .pre .4)
+relax-one-requires c κs = (omega arith, omega arith, c .before .before .before .before .before .pre .4)
 
 add-v : tie.Need-add-v Inv-loop μ-loop
 add-v c = omega arith

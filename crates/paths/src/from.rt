@@ -1,0 +1,113 @@
+// The costs from a vertex: each reachable vertex and its cost, ascending.
+ghost use mathlib.Core.Path.{_≡_};
+ghost use mathlib.Core.List.{[], _∷_};
+ghost use Prim.Native.Nat.{_+_, _*_, _/_, _<_, _≤_};
+ghost use lib.Dec.{eqb};
+ghost use lib.ListN.{length};
+ghost use Rattle.lists.specs.Tests.{bit, count};
+ghost use Rattle.lists.specs.Lists.{over};
+ghost use Rattle.layout.specs.Layout.{limit, vertexCount, read};
+ghost use Rattle.layout.specs.WellFormed.{Formed};
+ghost use Rattle.layout.specs.Answers.{result, listed};
+ghost use Rattle.steps.specs.Matrices.{numberOf};
+ghost use Rattle.paths.specs.Paths.{low, high, costsFrom};
+ghost use Rattle.paths.specs.Written.{laidAt, reached, keyWords, keysBelow, Put};
+use crate::choices;
+use crate::words;
+use layout::Answer;
+
+// 1 for the mark of a record that is reached, else 0.
+fn one_reached(mark: u8) -> usize
+    ensures { λ r. ⌜ r ≡ bit (eqb mark 2) ⌝ }
+{
+    if mark == 2 {
+        return 1;
+    }
+    0
+}
+
+// How many of the first n records are reached.
+fn count_reached(n: usize, m: &[u8; 256]) -> usize
+    requires { ⌜ n ≤ 256 ⌝ }
+    ensures { λ r. ⌜ (r ≡ count (reached (now (m .entry))) n) × (r ≤ n) ⌝ }
+{
+    let mut k: usize = 0;
+    let mut v = 0;
+    while v < n {
+        k += one_reached(m[v]);
+        v += 1;
+    }
+    k
+}
+
+// The vertex of record v and the cost that its key has above the low 16 bits.
+fn put_cost(t: &[u32], v: usize, key: u64, at: usize, out: &mut [u32])
+    requires { ⌜ Formed limit (now t) ⌝ }
+    requires { ⌜ (v < vertexCount (now t)) × (at + 3 ≤ length (now out)) ⌝ }
+    ensures { λ _. ⌜ now (out .exit) ≡ laidAt at (numberOf (read limit (now (t .entry))) v ∷ low (key / 65536) ∷ high (key / 65536) ∷ []) (now (out .entry)) ⌝ }
+{
+    let cost = key / 65536;
+    words::put_three(
+        layout::vertex_number(t, v),
+        (cost % 4294967296) as u32,
+        (cost / 4294967296) as u32,
+        at,
+        out,
+    );
+}
+
+// The words of record v, where it is reached, at place `at`; the place after them.
+fn put_record(
+    t: &[u32],
+    m: &[u8; 256],
+    d: &[u64; 256],
+    v: usize,
+    at: usize,
+    out: &mut [u32],
+) -> usize
+    requires { ⌜ Formed limit (now t) ⌝ }
+    requires { ⌜ (v < vertexCount (now t)) × (at + 3 * bit (reached (now m) v) ≤ length (now out)) ⌝ }
+    ensures { λ r. ⌜ Put at (keyWords (read limit (now (t .entry))) (now (m .entry)) (now (d .entry)) v) (now (out .entry)) r (now (out .exit)) ⌝ }
+{
+    if m[v] != 2 {
+        return at;
+    }
+    put_cost(t, v, d[v], at, out);
+    at + 3
+}
+
+// Writes the words of the records that are reached, ascending.
+fn put_costs(t: &[u32], n: usize, m: &[u8; 256], d: &[u64; 256], out: &mut [u32])
+    requires { ⌜ Formed limit (now t) ⌝ }
+    requires { ⌜ (n ≡ vertexCount (now t)) × (count (reached (now m)) n * 3 ≤ length (now out)) ⌝ }
+    ensures { λ _. ⌜ now (out .exit) ≡ over (keysBelow (read limit (now (t .entry))) (now (m .entry)) (now (d .entry)) n) (now (out .entry)) ⌝ }
+{
+    let mut at = 0;
+    let mut v = 0;
+    while v < n {
+        at = put_record(t, m, d, v, at, out);
+        v += 1;
+    }
+}
+
+// The costs from record i.
+pub fn list_costs(t: &[u32], i: usize, out: &mut [u32]) -> Answer
+    requires { ⌜ Formed limit (now t) ⌝ }
+    requires { ⌜ i < vertexCount (now t) ⌝ }
+    ensures { λ r. ⌜ result r (now (out .exit)) ≡ listed (costsFrom (read limit (now (t .entry))) (numberOf (read limit (now (t .entry))) i)) (now (out .entry)) ⌝ }
+{
+    let mut w = [0u32; 256];
+    choices::weights(t, &mut w);
+    let mut c = [0u8; 65536];
+    choices::choices(false, t, &w, &mut c);
+    let n = layout::vertex_count(t);
+    let mut m = [0u8; 256];
+    let mut d = [0u64; 256];
+    distance::dijkstra(&c, &w, n, i, &mut m, &mut d);
+    let needed = count_reached(n, &m) * 3;
+    if out.len() < needed {
+        return Answer::NoRoom(needed);
+    }
+    put_costs(t, n, &m, &d, out);
+    Answer::Done(needed)
+}
