@@ -1,19 +1,8 @@
 /* Times the edits on tables that are full but for the record that is added. Each call works on a fresh copy of the table, and the
  * copy is part of the time; a row of its own says what the copy alone takes. */
-#include <stdint.h>
 #include "tables.h"
 #include "timing.h"
-
-typedef struct {
-    uint32_t number;
-    uint64_t detail;
-} reply;
-
-reply timed_add_vertex(uint32_t *table, size_t words, uint32_t weight);
-reply timed_add_hyperedge(uint32_t *table, size_t words, const uint32_t *members, size_t count, uint32_t weight);
-reply timed_update_hyperedge_vertices(uint32_t *table, size_t words, uint32_t hyperedge, const uint32_t *members, size_t count);
-reply timed_remove_vertex(uint32_t *table, size_t words, uint32_t vertex);
-reply timed_remove_hyperedge(uint32_t *table, size_t words, uint32_t hyperedge);
+#include "vaultsorrel.h"
 
 static uint32_t full[WORDS], room[WORDS], table[WORDS], members[MEMBERS];
 
@@ -29,7 +18,7 @@ static void fill_room(uint32_t *t) {
     t[1] = t[3] = HYPEREDGES - 1;
 }
 
-static void must_be_done(const char *what, reply r) {
+static void must_be_done(const char *what, vs_reply r) {
     if (r.number != 0) {
         printf("%s: refused %u\n", what, r.number);
         exit(1);
@@ -52,10 +41,10 @@ int main(void) {
     puts("Edits, dense numbers. `full`: 256 vertices, 192 hyperedges of 32 members; `room`: one less of each.");
     table_head();
     TIME("the copy alone", "full", 6000, memcpy(table, full, sizeof table));
-    EDIT("add_vertex", room, 6000, timed_add_vertex(table, WORDS, 7));
-    EDIT("add_hyperedge", room, 6000, timed_add_hyperedge(table, WORDS, members, MEMBERS, 7));
-    EDIT("update_hyperedge_vertices", full, 6000, timed_update_hyperedge_vertices(table, WORDS, 100, members, MEMBERS));
-    EDIT("remove_hyperedge", full, 6000, timed_remove_hyperedge(table, WORDS, 0));
-    EDIT("remove_vertex", full, 30000, timed_remove_vertex(table, WORDS, 0));
+    EDIT("add_vertex", room, 6000, vs_add_vertex(table, WORDS, 7));
+    EDIT("add_hyperedge", room, 6000, vs_add_hyperedge(table, WORDS, members, MEMBERS, 7));
+    EDIT("update_hyperedge_vertices", full, 6000, vs_update_hyperedge_vertices(table, WORDS, (vs_hyperedge){100}, members, MEMBERS));
+    EDIT("remove_hyperedge", full, 6000, vs_remove_hyperedge(table, WORDS, (vs_hyperedge){0}));
+    EDIT("remove_vertex", full, 30000, vs_remove_vertex(table, WORDS, (vs_vertex){0}));
     return 0;
 }

@@ -1,57 +1,19 @@
-/* Times the queries on the full dense table: 256 vertices, 192 hyperedges of 32 members. */
-#include <stdint.h>
+/* Times the queries on full tables: 256 vertices, 192 hyperedges of 32 members. */
 #include "tables.h"
 #include "timing.h"
+#include "vaultsorrel.h"
 
-typedef struct {
-    uint32_t number;
-    uint64_t detail;
-} reply;
+enum { ROOM = 140000 };
 
-#define T const uint32_t *table, size_t words
-#define OUT uint32_t *out, size_t out_words
-
-reply timed_get_adjacent_vertices_from(T, uint32_t vertex, OUT);
-reply timed_get_vertex_neighborhood(T, uint32_t vertex, OUT);
-reply timed_get_vertex_degree_out(T, uint32_t vertex);
-reply timed_get_hyperedges_connecting(T, uint32_t from, uint32_t to, OUT);
-reply timed_get_full_adjacent_vertices_from(T, uint32_t vertex, OUT);
-reply timed_get_full_adjacent_vertices_to(T, uint32_t vertex, OUT);
-reply timed_get_hyperedges_intersections(T, const uint32_t *hyperedges, size_t count, OUT);
-reply timed_find_hyperedges_by_weight(T, uint32_t weight, OUT);
-reply timed_get_full_vertex_hyperedges(T, uint32_t vertex, OUT);
-reply timed_get_vertex_index(T, uint32_t weight, OUT);
-reply timed_contains_vertex(T, uint32_t weight);
-reply timed_is_reachable(T, uint32_t from, uint32_t to);
-reply timed_get_bfs(T, uint32_t vertex, OUT);
-reply timed_topological_sort(T, OUT);
-reply timed_is_acyclic(T);
-reply timed_find_cut_vertices(T, OUT);
-reply timed_get_dfs(T, uint32_t vertex, OUT);
-reply timed_get_orphan_vertices(T, OUT);
-reply timed_get_orphan_hyperedges(T, OUT);
-reply timed_get_endpoints(T, OUT);
-reply timed_is_k_uniform(T, size_t k);
-reply timed_get_inclusions(T, OUT);
-reply timed_get_nestedness_profile(T, OUT);
-reply timed_get_dijkstra_connections_with_cost(T, uint32_t from, uint32_t to, OUT);
-reply timed_get_dijkstra_from(T, uint32_t vertex, OUT);
-reply timed_random_walk(T, uint32_t start, size_t steps, uint64_t seed, OUT);
-reply timed_write_frames(T, uint8_t *text, size_t text_bytes);
-
-enum { ROOM = 70000 };
-
-static uint32_t full[WORDS], ascending[WORDS], out[ROOM];
-static uint32_t full[WORDS], nested[WORDS], out[ROOM];
-static uint8_t text[8 * ROOM];
+static uint32_t full[WORDS], ascending[WORDS], nested[WORDS], out[ROOM];
+static uint8_t text[ROOM];
 static const uint32_t pair[2] = {17, 18};
 
-#define ANSWER(what, table, expected, limit_ns, call)                 \
-#define QUERY(what, limit_ns, call) QUERY_ON(what, "full, dense numbers", limit_ns, call)
+#define V(n) ((vs_vertex){n})
 
-#define QUERY_ON(what, table, limit_ns, call)                         \
+#define ANSWER(what, table, expected, limit_ns, call)                 \
     do {                                                              \
-        reply r = call;                                               \
+        vs_reply r = call;                                            \
         if (r.number != expected) {                                   \
             printf("%s: answered %u\n", what, r.number);              \
             exit(1);                                                  \
@@ -67,35 +29,35 @@ int main(void) {
     fill_nested(nested);
     puts("Queries, the test of the table included.");
     table_head();
-    QUERY("adjacent_vertices_from", 8000, timed_get_adjacent_vertices_from(full, WORDS, 100, out, ROOM));
-    QUERY("vertex_neighborhood", 8000, timed_get_vertex_neighborhood(full, WORDS, 100, out, ROOM));
-    QUERY("vertex_degree_out", 8000, timed_get_vertex_degree_out(full, WORDS, 100));
-    QUERY("hyperedges_connecting", 8000, timed_get_hyperedges_connecting(full, WORDS, 100, 101, out, ROOM));
-    QUERY("full_adjacent_from", 15000, timed_get_full_adjacent_vertices_from(full, WORDS, 100, out, ROOM));
-    QUERY("full_adjacent_to", 15000, timed_get_full_adjacent_vertices_to(full, WORDS, 100, out, ROOM));
-    QUERY("intersections of 2", 8000, timed_get_hyperedges_intersections(full, WORDS, pair, 2, out, ROOM));
-    QUERY("hyperedges_by_weight", 8000, timed_find_hyperedges_by_weight(full, WORDS, 500, out, ROOM));
-    QUERY("full_vertex_hyperedges", 15000, timed_get_full_vertex_hyperedges(full, WORDS, 100, out, ROOM));
-    QUERY("vertex_index", 8000, timed_get_vertex_index(full, WORDS, 500, out, ROOM));
-    QUERY("contains_vertex", 8000, timed_contains_vertex(full, WORDS, 500));
-    QUERY("is_reachable", 80000, timed_is_reachable(full, WORDS, 0, 255));
-    QUERY("bfs", 80000, timed_get_bfs(full, WORDS, 0, out, ROOM));
-    ANSWER("topological_sort", "full, dense, lists ascending", 0, 120000, timed_topological_sort(ascending, WORDS, out, ROOM));
-    ANSWER("topological_sort, refused", "full, dense numbers", 9, 120000, timed_topological_sort(full, WORDS, out, ROOM));
-    ANSWER("is_acyclic", "full, dense, lists ascending", 0, 120000, timed_is_acyclic(ascending, WORDS));
-    QUERY("cut_vertices", 3000000, timed_find_cut_vertices(full, WORDS, out, ROOM));
-    QUERY("dfs", 80000, timed_get_dfs(full, WORDS, 0, out, ROOM));
-    QUERY("orphan_vertices", 20000, timed_get_orphan_vertices(full, WORDS, out, ROOM));
-    QUERY("orphan_hyperedges", 20000, timed_get_orphan_hyperedges(full, WORDS, out, ROOM));
-    QUERY("endpoints", 20000, timed_get_endpoints(full, WORDS, out, ROOM));
-    QUERY("is_k_uniform", 20000, timed_is_k_uniform(full, WORDS, 32));
-    QUERY("inclusions", 1500000, timed_get_inclusions(full, WORDS, out, ROOM));
-    QUERY("nestedness_profile", 1500000, timed_get_nestedness_profile(full, WORDS, out, ROOM));
-    QUERY_ON("inclusions", "nested lists", 1500000, timed_get_inclusions(nested, WORDS, out, ROOM));
-    QUERY_ON("nestedness_profile", "nested lists", 1500000, timed_get_nestedness_profile(nested, WORDS, out, ROOM));
-    QUERY("dijkstra_connections_with_cost", 120000, timed_get_dijkstra_connections_with_cost(full, WORDS, 0, 255, out, ROOM));
-    QUERY("dijkstra_from", 120000, timed_get_dijkstra_from(full, WORDS, 0, out, ROOM));
-    QUERY("write_frames", 200000, timed_write_frames(full, WORDS, text, sizeof text));
-    QUERY("random_walk of 4,096 steps", 2500000, timed_random_walk(full, WORDS, 0, 4096, 1, out, ROOM));
+    QUERY("adjacent_vertices_from", 8000, vs_get_adjacent_vertices_from(full, WORDS, V(100), out, ROOM));
+    QUERY("vertex_neighborhood", 8000, vs_get_vertex_neighborhood(full, WORDS, V(100), out, ROOM));
+    QUERY("vertex_degree_out", 8000, vs_get_vertex_degree_out(full, WORDS, V(100)));
+    QUERY("hyperedges_connecting", 8000, vs_get_hyperedges_connecting(full, WORDS, V(100), V(101), out, ROOM));
+    QUERY("full_adjacent_from", 15000, vs_get_full_adjacent_vertices_from(full, WORDS, V(100), out, ROOM));
+    QUERY("full_adjacent_to", 15000, vs_get_full_adjacent_vertices_to(full, WORDS, V(100), out, ROOM));
+    QUERY("intersections of 2", 8000, vs_get_hyperedges_intersections(full, WORDS, pair, 2, out, ROOM));
+    QUERY("hyperedges_by_weight", 8000, vs_find_hyperedges_by_weight(full, WORDS, 500, out, ROOM));
+    QUERY("full_vertex_hyperedges", 15000, vs_get_full_vertex_hyperedges(full, WORDS, V(100), out, ROOM));
+    QUERY("vertex_index", 8000, vs_get_vertex_index(full, WORDS, 500, out, ROOM));
+    QUERY("contains_vertex", 8000, vs_contains_vertex(full, WORDS, 500));
+    QUERY("is_reachable", 80000, vs_is_reachable(full, WORDS, V(0), V(255)));
+    QUERY("bfs", 80000, vs_get_bfs(full, WORDS, V(0), out, ROOM));
+    ANSWER("topological_sort", "full, dense, lists ascending", 0, 120000, vs_topological_sort(ascending, WORDS, out, ROOM));
+    ANSWER("topological_sort, refused", "full, dense numbers", 9, 120000, vs_topological_sort(full, WORDS, out, ROOM));
+    ANSWER("is_acyclic", "full, dense, lists ascending", 0, 120000, vs_is_acyclic(ascending, WORDS));
+    QUERY("cut_vertices", 3000000, vs_find_cut_vertices(full, WORDS, out, ROOM));
+    QUERY("dfs", 80000, vs_get_dfs(full, WORDS, V(0), out, ROOM));
+    QUERY("orphan_vertices", 20000, vs_get_orphan_vertices(full, WORDS, out, ROOM));
+    QUERY("orphan_hyperedges", 20000, vs_get_orphan_hyperedges(full, WORDS, out, ROOM));
+    QUERY("endpoints", 20000, vs_get_endpoints(full, WORDS, out, ROOM));
+    QUERY("is_k_uniform", 20000, vs_is_k_uniform(full, WORDS, 32));
+    QUERY("inclusions", 1500000, vs_get_inclusions(full, WORDS, out, ROOM));
+    QUERY("nestedness_profile", 1500000, vs_get_nestedness_profile(full, WORDS, out, ROOM));
+    ANSWER("inclusions", "nested lists", 0, 1500000, vs_get_inclusions(nested, WORDS, out, ROOM));
+    ANSWER("nestedness_profile", "nested lists", 0, 1500000, vs_get_nestedness_profile(nested, WORDS, out, ROOM));
+    QUERY("dijkstra_connections_with_cost", 120000, vs_get_dijkstra_connections_with_cost(full, WORDS, V(0), V(255), out, ROOM));
+    QUERY("dijkstra_from", 120000, vs_get_dijkstra_from(full, WORDS, V(0), out, ROOM));
+    QUERY("write_frames", 60000, vs_write_frames(full, WORDS, text, sizeof text));
+    QUERY("random_walk of 4,096 steps", 2500000, vs_random_walk(full, WORDS, V(0), 4096, 1, out, ROOM));
     return 0;
 }

@@ -16,7 +16,7 @@ static uint32_t draw(void) {
 }
 
 /* A full table whose vertex at place i has the number numbers[i]; next is the next vertex number. */
-static void fill_table(uint32_t *t, const uint32_t *numbers, uint32_t next) {
+static inline void fill_table(uint32_t *t, const uint32_t *numbers, uint32_t next) {
     drawn = 2463534242u;
     memset(t, 0, WORDS * sizeof *t);
     t[0] = next;
@@ -38,7 +38,7 @@ static void fill_table(uint32_t *t, const uint32_t *numbers, uint32_t next) {
 }
 
 /* Vertex numbers 0 to 255, the next one 256: as many live as were given. */
-static void fill_dense(uint32_t *t) {
+static inline void fill_dense(uint32_t *t) {
     uint32_t numbers[VERTICES];
     for (int i = 0; i < VERTICES; i++)
         numbers[i] = (uint32_t)i;
@@ -46,7 +46,7 @@ static void fill_dense(uint32_t *t) {
 }
 
 /* The same numbers, and every list strictly ascending: no steps form a closed walk. */
-static void fill_ascending(uint32_t *t) {
+static inline void fill_ascending(uint32_t *t) {
     fill_dense(t);
     for (int j = 0; j < HYPEREDGES; j++) {
         uint32_t *record = t + HYPEREDGES_AT + RECORD * j;
@@ -63,7 +63,7 @@ static void fill_ascending(uint32_t *t) {
 }
 
 /* Numbers with gaps of 1 to 1,000. */
-static void fill_gaps(uint32_t *t) {
+static inline void fill_gaps(uint32_t *t) {
     uint32_t numbers[VERTICES], x = 0;
     drawn = 88172645u;
     for (int i = 0; i < VERTICES; i++)
@@ -72,7 +72,7 @@ static void fill_gaps(uint32_t *t) {
 }
 
 /* Numbers that are equal modulo 1,024. */
-static void fill_equal_remainders(uint32_t *t) {
+static inline void fill_equal_remainders(uint32_t *t) {
     uint32_t numbers[VERTICES];
     for (int i = 0; i < VERTICES; i++)
         numbers[i] = 7 + 1024 * (uint32_t)i;
@@ -80,7 +80,7 @@ static void fill_equal_remainders(uint32_t *t) {
 }
 
 /* Numbers close together at both ends of the range. */
-static void fill_two_heaps(uint32_t *t) {
+static inline void fill_two_heaps(uint32_t *t) {
     uint32_t numbers[VERTICES];
     for (int i = 0; i < VERTICES; i++)
         numbers[i] = i < 128 ? (uint32_t)i : 4294967294u - 255u + (uint32_t)i;
@@ -88,7 +88,7 @@ static void fill_two_heaps(uint32_t *t) {
 }
 
 /* Numbers that a multiplied remainder puts into one place of 1,024. */
-static void fill_one_place(uint32_t *t) {
+static inline void fill_one_place(uint32_t *t) {
     uint32_t numbers[VERTICES];
     int i = 0;
     for (uint32_t x = 1; i < VERTICES; x++)
@@ -98,7 +98,7 @@ static void fill_one_place(uint32_t *t) {
 }
 
 /* The dense table with nested lists: each six records have one set, strictly within the sets of all later ones. */
-static void fill_nested(uint32_t *t) {
+static inline void fill_nested(uint32_t *t) {
     fill_dense(t);
     for (int j = 0; j < HYPEREDGES; j++)
         for (int i = 0; i < MEMBERS; i++)
