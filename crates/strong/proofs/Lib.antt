@@ -1,2 +1,2 @@
-pub mod Mutual
-pub mod State
+pub mod Shared
+pub mod Latest
