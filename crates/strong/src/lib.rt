@@ -56,12 +56,7 @@ fn try_root(
 }
 
 // The strong components. Answers how many there are.
-pub fn part_strong(
-    adj: &[u8; 65536],
-    back: &[u8; 65536],
-    n: usize,
-    ids: &mut [u32; 256],
-) -> u32
+pub fn part_strong(adj: &[u8; 65536], back: &[u8; 65536], n: usize, ids: &mut [u32; 256]) -> u32
     requires { ⌜ (n ≤ vertexLimit) × Turned (matrix (now adj)) (matrix (now back)) n ⌝ }
     ensures { λ c. ⌜ Partition (shared (matrix (now (adj .entry))) n) n (latestFirst (matrix (now (adj .entry))) n) (now (ids .exit)) c ⌝ }
 {

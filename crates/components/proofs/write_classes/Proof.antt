@@ -46,7 +46,7 @@ part-write-class-end : tie.Need-part-write-class-end Inv-loop μ-loop
 part-write-class-end c = omega arith
 
 write-class-requires : tie.Need-write-class-requires Inv-loop μ-loop
-write-class-requires c κs = 
+write-class-requires c κs =
     let l = c .before .before in
     let s = l .before .before .before in (
       s .pre .0,
@@ -54,11 +54,16 @@ write-class-requires c κs =
     )
 
 add-at : tie.Need-add-at Inv-loop μ-loop
-add-at c = 
+add-at c =
     let l = c .before .before .before .before .before in
     let s = l .before .before .before in
-    omega (arith, blocks-room (l .loop .inv .1) (s .args .c) (s .pre .1 .1) (c .before .before .before .before .loop-test .taken), long (c .before .before .before .before),
-    class-as (numberOf (read limit (s .args .t .now))) (s .args .ids .now) (s .args .n) (l .loop .k) (c .before .before .write-class .ensures) .ends, s .good)
+    omega (
+      arith,
+      blocks-room (l .loop .inv .1) (s .args .c) (s .pre .1 .1) (c .before .before .before .before .loop-test .taken),
+      long (c .before .before .before .before),
+      class-as (numberOf (read limit (s .args .t .now))) (s .args .ids .now) (s .args .n) (l .loop .k) (c .before .before .write-class .ensures) .ends,
+      s .good,
+    )
 
 add-k : tie.Need-add-k Inv-loop μ-loop
 add-k c = omega arith
@@ -67,7 +72,7 @@ loop-less : tie.Need-loop-less Inv-loop μ-loop
 loop-less c = omega arith
 
 loop-again : tie.Need-loop-again Inv-loop μ-loop
-loop-again c = 
+loop-again c =
     let l = c .before .before .before .before .before in
     let s = l .before .before .before in (
       omega arith,
@@ -76,12 +81,12 @@ loop-again c =
     )
 
 same-length : tie.Need-same-length Inv-loop μ-loop
-same-length c = 
+same-length c =
     let s = c .before .before .before .before in
     blocks-long (c .before .loop .inv .1) (s .args .c) (s .pre .1 .1) (c .before .loop .inv .0)
 
 returns : tie.Need-returns Inv-loop μ-loop
-returns c = 
+returns c =
     let s = c .before .before .before .before in
     blocks-end (c .before .loop .inv .1) (s .args .c) (s .pre .1 .1) (c .before .loop .inv .0) (c .loop-test .left)
 

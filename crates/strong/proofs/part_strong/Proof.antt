@@ -46,7 +46,7 @@ cast-r : tie.Need-cast-r Inv-loop μ-loop
 cast-r c = omega (arith, rooted c, c .before .before .before .before .pre .0)
 
 try-root-requires : tie.Need-try-root-requires Inv-loop μ-loop
-try-root-requires c κs = 
+try-root-requires c κs =
     let i = c .before in
     let s = i .before .before .before .before in
     let f = i .before .before .finish-order .ensures in
@@ -59,14 +59,14 @@ loop-less : tie.Need-loop-less Inv-loop μ-loop
 loop-less c = falls-down _ (c .before .before .loop-test .taken)
 
 loop-again : tie.Need-loop-again Inv-loop μ-loop
-loop-again c = 
+loop-again c =
     let i = c .before .before in
     let s = i .before .before .before .before in
     let f = i .before .before .finish-order .ensures in
     (omega arith, latest-more (matrix (s .args .adj .now)) (s .args .n) (s .pre .0) f (i .before .loop .inv .1) (i .loop-test .taken) (i .before .loop .inv .0) (c .try-root .ensures))
 
 returns : tie.Need-returns Inv-loop μ-loop
-returns c = 
+returns c =
     let s = c .before .before .before .before in
     latest-end (matrix (s .args .adj .now)) (s .args .n) (s .pre .0) (c .before .before .finish-order .ensures) (c .before .loop .inv .1) (c .loop-test .left)
 

@@ -34,7 +34,7 @@ add-result : tie.Need-add-result
 add-result c = search needs
 
 returns-2 : tie.Need-returns-2
-returns-2 c = 
+returns-2 c =
     let a = c .before .before .before .before .before .before .before .before in
     let b = c .before .before .before .before .before .before in
     let k = c .before .before .before in
