@@ -21,26 +21,31 @@ reply timed_get_vertex_index(T, uint32_t weight, OUT);
 reply timed_contains_vertex(T, uint32_t weight);
 reply timed_is_reachable(T, uint32_t from, uint32_t to);
 reply timed_get_bfs(T, uint32_t vertex, OUT);
+reply timed_topological_sort(T, OUT);
+reply timed_is_acyclic(T);
 reply timed_random_walk(T, uint32_t start, size_t steps, uint64_t seed, OUT);
 reply timed_write_frames(T, uint8_t *text, size_t text_bytes);
 
 enum { ROOM = 70000 };
 
-static uint32_t full[WORDS], out[ROOM];
+static uint32_t full[WORDS], ascending[WORDS], out[ROOM];
 static uint8_t text[8 * ROOM];
 
-#define QUERY(what, limit_ns, call)                                   \
+#define ANSWER(what, table, expected, limit_ns, call)                 \
     do {                                                              \
         reply r = call;                                               \
-        if (r.number != 0) {                                          \
-            printf("%s: refused %u\n", what, r.number);               \
+        if (r.number != expected) {                                   \
+            printf("%s: answered %u\n", what, r.number);              \
             exit(1);                                                  \
         }                                                             \
-        TIME(what, "full, dense numbers", limit_ns, r = call);        \
+        TIME(what, table, limit_ns, r = call);                        \
     } while (0)
+
+#define QUERY(what, limit_ns, call) ANSWER(what, "full, dense numbers", 0, limit_ns, call)
 
 int main(void) {
     fill_dense(full);
+    fill_ascending(ascending);
     puts("Queries, the test of the table included.");
     table_head();
     QUERY("adjacent_vertices_from", 8000, timed_get_adjacent_vertices_from(full, WORDS, 100, out, ROOM));
@@ -53,6 +58,9 @@ int main(void) {
     QUERY("contains_vertex", 8000, timed_contains_vertex(full, WORDS, 500));
     QUERY("is_reachable", 80000, timed_is_reachable(full, WORDS, 0, 255));
     QUERY("bfs", 80000, timed_get_bfs(full, WORDS, 0, out, ROOM));
+    ANSWER("topological_sort", "full, dense, lists ascending", 0, 120000, timed_topological_sort(ascending, WORDS, out, ROOM));
+    ANSWER("topological_sort, refused", "full, dense numbers", 9, 120000, timed_topological_sort(full, WORDS, out, ROOM));
+    ANSWER("is_acyclic", "full, dense, lists ascending", 0, 120000, timed_is_acyclic(ascending, WORDS));
     QUERY("write_frames", 200000, timed_write_frames(full, WORDS, text, sizeof text));
     QUERY("random_walk of 64 steps", 140625, timed_random_walk(full, WORDS, 0, 64, 1, out, ROOM));
     return 0;

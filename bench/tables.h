@@ -45,6 +45,23 @@ static void fill_dense(uint32_t *t) {
     fill_table(t, numbers, VERTICES);
 }
 
+/* The same numbers, and every list strictly ascending: no steps form a closed walk. */
+static void fill_ascending(uint32_t *t) {
+    fill_dense(t);
+    for (int j = 0; j < HYPEREDGES; j++) {
+        uint32_t *record = t + HYPEREDGES_AT + RECORD * j;
+        char listed[VERTICES] = {0};
+        for (int i = 0; i < MEMBERS;) {
+            uint32_t x = draw() % VERTICES;
+            i += !listed[x];
+            listed[x] = 1;
+        }
+        for (int x = 0, i = 0; x < VERTICES; x++)
+            if (listed[x])
+                record[3 + i++] = (uint32_t)x;
+    }
+}
+
 /* Numbers with gaps of 1 to 1,000. */
 static void fill_gaps(uint32_t *t) {
     uint32_t numbers[VERTICES], x = 0;

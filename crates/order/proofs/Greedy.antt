@@ -12,14 +12,14 @@ use lib.ListN.{length, getD, length-append, List·getD-append}
 use lib.Seq.{getD-append-seam, append-snoc}
 use borrow.Author.Tests.{not-true, ne-eqb, eq-eqb, eqb-true, eqb-false, lt-ltb, le-ltb, ltb-true, ltb-false}
 use Rattle.graph.specs.Reach.{Edge}
-use Rattle.lists.proofs.Cases.{on, on-same, clash, or-right}
+use Rattle.lists.proofs.Cases.{on, on-same, clash, or-right, test-ext}
 use Rattle.lists.proofs.Count.{pigeon, full, lacks}
 use Rattle.lists.proofs.Memb.{memb-left, memb-snoc, memb-getD, memb-at, below-snoc, distinct-snoc, memb-append, memb-self, below-memb}
-use Rattle.lists.specs.Lists.{memb, Distinct, Below}
+use Rattle.lists.specs.Lists.{memb, isBelow, Distinct, Below}
 use Rattle.lists.specs.Tests.{count}
 use Rattle.order.proofs.Least.{least-hit, least-le, count-none, count-zero, count-some}
 use Rattle.order.specs.Least.{least}
-use Rattle.order.specs.Sort.{Topo, LexLe, Smallest}
+use Rattle.order.specs.Sort.{Forward, LexLe, Smallest}
 use Rattle.walks.proofs.Walks.{reach-trans}
 use Rattle.walks.specs.Walks.{Reach, here, step, Closed}
 use Rattle.order.specs.Greedy.{waits, avail, next, rest, greedy}
@@ -145,6 +145,12 @@ module _ (E : ℕ → ℕ → Bool) (n : ℕ) where
   unfolding greedy
   greedy-ended = rest-ended n [] placed-none (omega arith)
 
+  pub greedy-below : Below n (greedy E n)
+  greedy-below = greedy-ended .0 .below
+
+  pub greedy-short : length (greedy E n) ≤ n
+  greedy-short = pigeon (greedy E n) n (greedy-ended .0 .once) greedy-below
+
   -- back along steps from numbers that are not placed to such numbers, till one comes again
   chase : (p : List ℕ) → n ≤ next E n p → (f x : ℕ) (w : List ℕ) → memb x p ≡ false → Distinct (x ∷ w) → Below n (x ∷ w)
       → ((y : ℕ) → memb y (x ∷ w) ≡ true → Reach (Edge E n) x y) → n < f + length (x ∷ w) → Closed (Edge E n)
@@ -172,14 +178,15 @@ module _ (E : ℕ → ℕ → Bool) (n : ℕ) where
       (λ ne. clash e (ap (λ (t : Bool). t || false) (ne-eqb y (x .0) ne))))
       (omega arith)
 
-  pub greedy-topo : length (greedy E n) ≡ n → Topo E n (greedy E n)
-  greedy-topo e =
+  greedy-forward : length (greedy E n) ≡ n → Forward (isBelow n) (Edge E n) (greedy E n)
+  greedy-forward e =
       let h = greedy-ended .0 in
       record {
         once = h .once;
-        below = h .below;
-        all = e;
-        forward = λ i j a b r. h .forward i j (omega (arith, e)) (omega (arith, e)) r;
+        same = λ x. test-ext (memb x (greedy E n)) (ltb x n)
+            (λ m. lt-ltb x n (below-memb n (greedy E n) (h .below) x m))
+            (λ m. full (greedy E n) n (h .once) (h .below) (omega (arith, e)) x (ltb-true x n m));
+        forward = λ i j a b r. h .forward i j a b (r .2);
       }
 
   -- no order comes before
@@ -190,34 +197,35 @@ module _ (E : ℕ → ℕ → Bool) (n : ℕ) where
       (λ s. clash (subst (λ (z : ℕ). memb z (p ++ (y ∷ k)) ≡ true) s (memb-append y p (y ∷ k) ∙ or-right (memb y p) (memb y (y ∷ k)) (memb-self y k))) (d .0))
       (λ ne. ap (λ (t : Bool). t || memb y p) (ne-eqb y x ne) ∙ mid-new p y k (d .1))
 
-  rest-lex : (f : ℕ) (p k : List ℕ) → Topo E n (p ++ k) → LexLe (rest E n f p) k
+  rest-lex : (f : ℕ) (p k : List ℕ) → Forward (isBelow n) (Edge E n) (p ++ k) → LexLe (rest E n f p) k
   rest-lex zero p k t = subst (λ (r : List ℕ). LexLe r k) (sym (rest-zero p)) tt
   rest-lex (suc f) p [] t =
       on (ltb (next E n p) n)
       (λ e.
       let l : next E n p < n = ltb-true (next E n p) n e in
-      clash (full (p ++ []) n (t .once) (t .below) (omega (arith, t .all)) (next E n p) l) (ap (memb (next E n p)) (append-nil p) ∙ avail-new p (next E n p) (next-avail p l)))
+      clash (t .same (next E n p) ∙ e) (ap (memb (next E n p)) (append-nil p) ∙ avail-new p (next E n p) (next-avail p l)))
       (λ e. subst (λ (r : List ℕ). LexLe r []) (sym (rest-end (suc f) p (ltb-false (next E n p) n e))) tt)
   rest-lex (suc f) p (y ∷ k) t =
       let q : List ℕ = p ++ (y ∷ k) in
       let seam : getD q (length p) 0 ≡ y = getD-append-seam p y k 0 in
       let len : length q ≡ length p + suc (length k) = length-append p (y ∷ k) in
-      let small : y < n = subst (λ (z : ℕ). z < n) seam (below-memb n q (t .below) (getD q (length p) 0) (memb-getD q (length p) (omega arith))) in
+      let small : y < n = ltb-true y n (sym (t .same y) ∙ memb-append y p (y ∷ k) ∙ or-right (memb y p) (memb y (y ∷ k)) (memb-self y k)) in
       let ok : avail E n p y ≡ true = avail-is p y (mid-new p y k (t .once))
       (λ u a e.
-      let at = memb-at u q (full q n (t .once) (t .below) (omega (arith, t .all)) u a) in
-      let i : at .0 < length p = t .forward (at .0) (length p) (omega (arith, at .1, t .all)) (omega (arith, t .all)) (rw (at .2, seam) e) in
+      let at = memb-at u q (t .same u ∙ lt-ltb u n a) in
+      let i : at .0 < length p = t .forward (at .0) (length p) (at .1) (omega arith) (rw (at .2, seam) (a, small, e)) in
       subst (λ (z : ℕ). memb z p ≡ true) (sym (List·getD-append p (y ∷ k) 0 (at .0) i) ∙ at .2) (memb-getD p (at .0) i)) in
       let le : next E n p ≤ y = next-le p y small ok in
       let l : next E n p < n = omega arith in
       subst (λ (r : List ℕ). LexLe r (y ∷ k)) (sym (rest-more f p l))
       (on-same (next E n p) y
-      (λ s. inr (s, rest-lex f (p ++ (next E n p ∷ [])) k (subst (λ (z : ℕ). Topo E n (p ++ (z ∷ []) ++ k)) (sym s) (subst (Topo E n) (sym (append-snoc p y k)) t))))
+      (λ s. inr (s, rest-lex f (p ++ (next E n p ∷ [])) k (subst (λ (z : ℕ). Forward (isBelow n) (Edge E n) (p ++ (z ∷ []) ++ k)) (sym s) (subst (Forward (isBelow n) (Edge E n)) (sym (append-snoc p y k)) t))))
       (λ ne. inl (omega arith)))
 
-  pub greedy-least : (k : List ℕ) → Topo E n k → LexLe (greedy E n) k
+  greedy-least : (k : List ℕ) → Forward (isBelow n) (Edge E n) k → LexLe (greedy E n) k
   unfolding greedy
   greedy-least k t = rest-lex n [] k t
 
-  pub greedy-sorts : length (greedy E n) ≡ n → Smallest E n (greedy E n)
-  greedy-sorts e = record { topo = greedy-topo e; least = greedy-least }
+  -- where it has every number, it is the sort
+  pub greedy-sorts : length (greedy E n) ≡ n → Smallest (isBelow n) (Edge E n) (greedy E n)
+  greedy-sorts e = record { order = greedy-forward e; least = greedy-least }

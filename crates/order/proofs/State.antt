@@ -1,45 +1,68 @@
--- What the code of the sort holds, and its laws. Assumes nothing.
+-- Laws of what the code of the sort holds. Assumes nothing.
 use mathlib.Core.Path.{_≡_, refl, sym, ap, _∙_, subst}
 use mathlib.Core.Bool.{Bool, true, false, _&&_, not, and-true, and-false}
 use mathlib.Core.List.{List, [], _∷_, _++_, append-nil}
-use Prim.Native.Nat.{ℕ, suc, _+_, _-_, _≤_, _<_}
-use native.Mathlib.Nat.{sub-zero}
+use Prim.Native.Nat.{ℕ, suc, _+_, _-_, _*_, _≤_, _<_}
+use native.Mathlib.Nat.{sub-zero, le-antisymm}
+use native.Mathlib.Numerals.{add-one}
 use native.Mathlib.Omega.{arith}
 use lib.Dec.{eqb}
-use lib.ListN.{length, getD, take, set, replicate}
-use lib.Seq.{append-snoc}
-use borrow.Author.Tests.{eqb-true, eqb-false}
-use Rattle.graph.proofs.Held.{held-none, held-as, held-short, held-room, held-more}
-use Rattle.graph.specs.Held.{Held}
+use lib.ListN.{length, getD, take, set, length-set, length-append, replicate, length-replicate, getD-replicate}
+use lib.Seq.{append-snoc, take-suc-set, getD-set-same, getD-set-other}
+use mir.Syntax.{w64}
+use mir.Val.{Fits}
+use borrow.Author.Tests.{eqb-true, eqb-false, ne-eqb}
+use Rattle.graph.specs.Reach.{Edge}
 use Rattle.lists.proofs.Cases.{on, on-same}
-use Rattle.lists.proofs.Count.{count-ext, count-flip}
-use Rattle.lists.proofs.Memb.{memb-snoc-self, memb-snoc-other}
-use Rattle.lists.specs.Lists.{memb}
+use Rattle.lists.proofs.Count.{count-ext, count-flip, room}
+use Rattle.lists.proofs.Memb.{memb-snoc-self, memb-snoc-other, distinct-snoc, below-snoc}
+use Rattle.lists.specs.Lists.{memb, isBelow, Distinct, Below}
 use Rattle.lists.specs.Tests.{count, bit}
-use Rattle.order.proofs.Greedy.{avail-new, next-avail, rest-more, rest-end, greedy-sorts, greedy-fails}
-use Rattle.order.proofs.Least.{least-ext}
+use Rattle.order.proofs.Greedy.{avail-new, next-avail, rest-more, rest-end, greedy-short, greedy-sorts, greedy-fails}
+use Rattle.order.proofs.Least.{least-ext, least-hit}
 use Rattle.order.specs.Greedy.{waits, avail, next, rest, greedy}
 use Rattle.order.specs.Least.{least}
 use Rattle.order.specs.Sort.{Smallest}
-use Rattle.order.specs.State.{Degrees, Settled, free, Needs, Sorted, Sorting}
+use Rattle.order.specs.State.{Degrees, Row, Owed, free, placedMark, Needs, Sorted, Sorting}
 
-pub needs-none : {E : ℕ → ℕ → Bool} {n : ℕ} {d : List ℕ} → Degrees E n d → Needs E n d []
+-- ---- the counts, row by row
+
+pub degrees-first : (E : ℕ → ℕ → Bool) (n : ℕ) → n ≤ 256 → Degrees E n 0 (replicate 256 0)
+degrees-first E n b = record { long = length-replicate {A = ℕ} 256 0; is = λ v l. getD-replicate {A = ℕ} 256 v 0 0 (omega arith) }
+
+module _ {E : ℕ → ℕ → Bool} {n u : ℕ} {d : List ℕ} (h : Degrees E n u d) where
+  pub degrees-more : {d′ : List ℕ} → Row E n u d d′ → Degrees E n (u + 1) d′
+  degrees-more {d′} r = record {
+    long = r .longer;
+    is = λ v l. let s : count (λ x. E x v) (u + 1) ≡ bit (E u v) + count (λ x. E x v) u = rw (add-one u) in omega (arith, r .is v l, h .is v l, s);
+  }
+
+  pub degrees-end : u ≤ n → n ≤ u → Degrees E n n d
+  degrees-end a b = subst (λ (k : ℕ). Degrees E n k d) (le-antisymm a b) h
+
+-- ---- what each number waits for
+
+needs-none : {E : ℕ → ℕ → Bool} {n : ℕ} {d : List ℕ} → Degrees E n n d → Needs E n d []
 needs-none {E} {n} {d} h = record {
   long = h .long;
-  is = λ v l. h .is v l ∙ count-ext (λ u. E u v) (waits E [] v) n (λ u _. sym (and-true (E u v)));
+  is = λ v l. omega (arith, h .is v l, count-ext (λ u. E u v) (waits E [] v) n (λ u _. sym (and-true (E u v))));
 }
 
-bit-zero : (b : Bool) → eqb (bit b) 0 ≡ not b
-bit-zero true = refl
-bit-zero false = refl
+-- a number is free where its count is 0 and it is not placed
+free-test : (x c : ℕ) (b : Bool) → x ≡ c + bit b * placedMark → eqb x 0 ≡ (not b && eqb c 0)
+free-test x c true e = ne-eqb x 0 (λ z. let y : _≡_ {A = ℕ} 0 1 = omega arith in no y)
+  where
+    no : _≡_ {A = ℕ} 0 1 → ⊥
+    no y = omega arith
+free-test x c false e = ap (λ (y : ℕ). eqb y 0) (let q : x ≡ c = omega arith in q)
 
-module _ {E : ℕ → ℕ → Bool} {n : ℕ} {m o d p : List ℕ} {t : ℕ} (h : Held n m o t p) (g : Needs E n d p) where
-  pub first-is : least (free m d) n 0 ≡ next E n p
+module _ {E : ℕ → ℕ → Bool} {n : ℕ} {d p : List ℕ} (g : Needs E n d p) where
+  first-is : least (free d) n 0 ≡ next E n p
   unfolding next avail
-  first-is = least-ext (free m d) (avail E n p) n 0
-      (λ i _ l. let li : i < n = omega arith in rw (h .marks i li, g .is i li) (ap (λ (b : Bool). b && eqb (count (waits E p i) n) 0) (bit-zero (memb i p))))
+  first-is = least-ext (free d) (avail E n p) n 0
+      (λ i _ l. let li : i < n = omega arith in free-test (getD d i 0) (count (waits E p i) n) (memb i p) (g .is i li))
 
-  module _ {v : ℕ} (lv : v < n) (new : memb v p ≡ false) where
+  module _ {v : ℕ} (lv : v < n) (b : n ≤ 256) (new : memb v p ≡ false) (none : getD d v 0 ≡ 0) where
     fewer : (w : ℕ) → count (waits E p w) n ≡ count (waits E (p ++ (v ∷ [])) w) n + bit (E v w)
     fewer w =
         let q : List ℕ = p ++ (v ∷ []) in
@@ -58,69 +81,91 @@ module _ {E : ℕ → ℕ → Bool} {n : ℕ} {m o d p : List ℕ} {t : ℕ} (h 
               (λ y _. on-same y v (λ s. subst (λ (z : ℕ). waits E p w z ≡ waits E q w z) (sym s) (rw e)) (other y)),
         ))
 
-    pub owed : (w : ℕ) → w < n → E v w ≡ true → 0 < getD d w 0
-    owed w l e = omega (arith, g .is w l, fewer w, ap bit e)
+    here : getD (set d v placedMark) v 0 ≡ placedMark
+    here = getD-set-same d v placedMark 0 (omega (arith, g .long))
 
-    pub needs-more : {d′ : List ℕ} → Settled E n v d d′ → Needs E n d′ (p ++ (v ∷ []))
-    needs-more {d′} s = record {
-      long = s .long;
-      is = λ w l. omega (arith, s .is w l, g .is w l, fewer w);
+    owed : Owed E n v (set d v placedMark)
+    owed = record {
+      long = length-set d v placedMark ∙ g .long;
+      is = λ w l e. on-same w v
+          (λ s. omega (arith, ap (λ (z : ℕ). getD (set d v placedMark) z 0) s, here))
+          (λ ne. omega (arith, getD-set-other d v w placedMark 0 ne, g .is w l, fewer w, ap bit e));
     }
 
-pub sorting-first : {E : ℕ → ℕ → Bool} {n : ℕ} {d : List ℕ} {v : ℕ} → n ≤ 256 → Degrees E n d → v ≡ least (free (replicate 256 0) d) n 0
-    → Sorting E n (replicate 256 0) d (replicate 256 0) 0 v
+    needs-more : {d′ : List ℕ} → Row E n v d′ (set d v placedMark) → Needs E n d′ (p ++ (v ∷ []))
+    needs-more {d′} s = record {
+      long = s .long;
+      is = λ w l. on-same w v
+          (λ q. subst (λ (z : ℕ). getD d′ z 0 ≡ count (waits E (p ++ (v ∷ [])) z) n + bit (memb z (p ++ (v ∷ []))) * placedMark) (sym q)
+          (omega (arith, s .is v lv, here, g .is v lv, fewer v, none, ap bit (memb-snoc-self v p))))
+          (λ ne. omega (arith, s .is w l, getD-set-other d v w placedMark 0 ne, g .is w l, fewer w, ap bit (memb-snoc-other w v p ne)));
+    }
+
+-- ---- the sort's loop
+
+pub sorting-first : {E : ℕ → ℕ → Bool} {n : ℕ} {d : List ℕ} {v : ℕ} → n ≤ 256 → Degrees E n n d → v ≡ least (free d) n 0 → Sorting E n d (replicate 256 0) 0 v
 unfolding greedy
 sorting-first {E} {n} {d} {v} b h e =
-    let k : Held n (replicate 256 0) (replicate 256 0) 0 [] = held-none n b in
     let g : Needs E n d [] = needs-none h in
-    record { held = k; needs = g; turn = e ∙ first-is k g; left = rw sub-zero }
+    record { long = length-replicate {A = ℕ} 256 0; count = refl; once = tt; below = tt; needs = g; turn = e ∙ first-is g; left = rw sub-zero }
 
-module _ {E : ℕ → ℕ → Bool} {n : ℕ} {m d o : List ℕ} {t v : ℕ} (h : Sorting E n m d o t v) where
+module _ {E : ℕ → ℕ → Bool} {n : ℕ} {d o : List ℕ} {t v : ℕ} (h : Sorting E n d o t v) where
   pub sorting-end : n ≤ v → Sorted E n (eqb t n) o
   sorting-end l =
       let p : List ℕ = take t o in
       let g : p ≡ greedy E n = sym (append-nil p) ∙ ap (λ (r : List ℕ). p ++ r) (sym (rest-end E n (n - t) p (omega (arith, h .turn)))) ∙ h .left in
-      let len : t ≡ length (greedy E n) = h .held .count ∙ ap length g in
+      let len : t ≡ length (greedy E n) = h .count ∙ ap length g in
       record {
-        done = λ e. let s : t ≡ n = eqb-true t n e in subst (λ (w : List ℕ). Smallest E n w) (sym g ∙ ap (λ (k : ℕ). take k o) s) (greedy-sorts E n (sym len ∙ s));
-        refused = λ e.
-            let s : t ≡ n → ⊥ = eqb-false t n e in
-            let b : t ≤ n = held-short (h .held) in
-            greedy-fails E n (subst (λ (k : ℕ). k < n) len (omega arith));
+        done = λ e. let s : t ≡ n = eqb-true t n e in subst (λ (w : List ℕ). Smallest (isBelow n) (Edge E n) w) (sym g ∙ ap (λ (k : ℕ). take k o) s) (greedy-sorts E n (sym len ∙ s));
+        refused = λ e. let s : t ≡ n → ⊥ = eqb-false t n e in greedy-fails E n (subst (λ (k : ℕ). k < n) len (omega (arith, len, greedy-short E n)));
       }
 
   module _ (l : v < n) where
+    nexts : next E n (take t o) < n
+    nexts = omega (arith, h .turn)
+
     new : memb v (take t o) ≡ false
-    new =
-        let p : List ℕ = take t o in
-        let a : next E n p < n = omega (arith, h .turn) in
-        subst (λ (x : ℕ). memb x p ≡ false) (sym (h .turn)) (avail-new E n p (next E n p) (next-avail E n p a))
+    new = subst (λ (x : ℕ). memb x (take t o) ≡ false) (sym (h .turn)) (avail-new E n (take t o) (next E n (take t o)) (next-avail E n (take t o) nexts))
 
-    unmarked : getD m v 0 ≡ 0
-    unmarked = h .held .marks v l ∙ ap bit new
+    none : getD d v 0 ≡ 0
+    none = eqb-true (getD d v 0) 0 (subst (λ (x : ℕ). free d x ≡ true) (first-is (h .needs) ∙ sym (h .turn)) (least-hit (free d) n 0 (omega (arith, first-is (h .needs), nexts))))
 
-    pub sorting-room : t < n
-    sorting-room = held-room (h .held) l unmarked
+    sorting-room : t < n
+    sorting-room = omega (arith, h .count, room (take t o) n v (h .once) (h .below) l new)
 
-    pub sorting-owed : (w : ℕ) → w < n → E v w ≡ true → 0 < getD d w 0
-    sorting-owed = owed (h .held) (h .needs) l new
+    -- the code's index and measure
+    pub sorting-fits : n ≤ 256 → t < 256
+    sorting-fits b = omega (arith, sorting-room)
 
-    pub sorting-more : {d′ : List ℕ} {v′ : ℕ} → n ≤ 256 → Settled E n v d d′ → v′ ≡ least (free (set m v 1) d′) n 0
-        → Sorting E n (set m v 1) d′ (set o t v) (t + 1) v′
+    pub sorting-word : n ≤ 256 → Fits w64 (t * 4)
+    sorting-word b = omega (arith, sorting-room)
+
+    pub sorting-next : n ≤ 256 → Fits w64 (t + 1)
+    sorting-next b = omega (arith, sorting-room)
+
+    pub sorting-less : n - (t + 1) < n - t
+    sorting-less = omega (arith, sorting-room)
+
+    pub sorting-owed : n ≤ 256 → Owed E n v (set d v placedMark)
+    sorting-owed b = owed (h .needs) l b new none
+
+    pub sorting-more : {d′ : List ℕ} {v′ : ℕ} → n ≤ 256 → Row E n v d′ (set d v placedMark) → v′ ≡ least (free d′) n 0
+        → Sorting E n d′ (set o t v) (t + 1) v′
     sorting-more {d′} {v′} b s e =
         let p : List ℕ = take t o in
         let q : List ℕ = p ++ (v ∷ []) in
         let o′ : List ℕ = set o t v in
-        let k : Held n (set m v 1) o′ (t + 1) q = held-more (h .held) l b unmarked in
-        let g : Needs E n d′ q = needs-more (h .held) (h .needs) l new s in
-        let r : take (t + 1) o′ ≡ q = k .queue in
-        let a : next E n p < n = omega (arith, h .turn) in
+        let g : Needs E n d′ q = needs-more (h .needs) l b new none s in
+        let r : take (t + 1) o′ ≡ q = rw (add-one t) (take-suc-set o t v (omega (arith, sorting-room, h .long))) in
         let f : n - t ≡ suc (n - (t + 1)) = omega (arith, sorting-room) in
         let u : rest E n (n - t) p ≡ v ∷ rest E n (n - (t + 1)) q =
-        ap (λ (i : ℕ). rest E n i p) f ∙ rest-more E n (n - (t + 1)) p a ∙ ap (λ (x : ℕ). x ∷ rest E n (n - (t + 1)) (p ++ (x ∷ []))) (sym (h .turn)) in
+        ap (λ (i : ℕ). rest E n i p) f ∙ rest-more E n (n - (t + 1)) p nexts ∙ ap (λ (x : ℕ). x ∷ rest E n (n - (t + 1)) (p ++ (x ∷ []))) (sym (h .turn)) in
         record {
-          held = held-as k r;
+          long = length-set o t v ∙ h .long;
+          count = omega (arith, ap length r, length-append p (v ∷ []), h .count);
+          once = subst (λ (w : List ℕ). Distinct w) (sym r) (distinct-snoc p v (h .once) new);
+          below = subst (λ (w : List ℕ). Below n w) (sym r) (below-snoc n p v (h .below) l);
           needs = subst (λ (w : List ℕ). Needs E n d′ w) (sym r) g;
-          turn = e ∙ first-is k g ∙ ap (next E n) (sym r);
+          turn = e ∙ first-is g ∙ ap (next E n) (sym r);
           left = ap (λ (w : List ℕ). w ++ rest E n (n - (t + 1)) w) r ∙ append-snoc p v (rest E n (n - (t + 1)) q) ∙ ap (λ (w : List ℕ). p ++ w) (sym u) ∙ h .left;
         }

@@ -1,26 +1,25 @@
--- What a sort is: an order of the numbers below n in which every step goes forward, and the smallest of them. Assumes nothing.
+-- What a sort is: an order in which every step goes forward, and the smallest of them. Assumes nothing.
 use mathlib.Core.Path.{_≡_}
-use mathlib.Core.Bool.{Bool, true}
+use mathlib.Core.Bool.{Bool}
 use mathlib.Core.Logic.{_⊎_}
 use mathlib.Core.List.{List, [], _∷_}
 use Prim.Native.Nat.{ℕ, _<_}
 use lib.ListN.{length, getD}
-use Rattle.lists.specs.Lists.{Distinct, Below}
+use Rattle.lists.specs.Lists.{memb, Distinct}
 
--- each number below n once, and a step only from an earlier place to a later one
-pub record Topo (E : ℕ → ℕ → Bool) (n : ℕ) (l : List ℕ) : Type 0 where
+-- an order of those that are live, each once and no other, in which every step goes forward
+pub record Forward (live : ℕ → Bool) (R : ℕ → ℕ → Type 0) (l : List ℕ) : Type 0 where
   pub once : Distinct l
-  pub below : Below n l
-  pub all : length l ≡ n
-  pub forward : (i j : ℕ) → i < n → j < n → E (getD l i 0) (getD l j 0) ≡ true → i < j
+  pub same : (x : ℕ) → memb x l ≡ live x
+  pub forward : (i j : ℕ) → i < length l → j < length l → R (getD l i 0) (getD l j 0) → i < j
 
--- l is at or before k, element by element
+-- l comes lexicographically before k, or is k
 abbrev pub LexLe : List ℕ → List ℕ → Type 0
 LexLe [] k = Unit {0}
 LexLe (x ∷ l) [] = ⊥
 LexLe (x ∷ l) (y ∷ k) = (x < y) ⊎ ((x ≡ y) × LexLe l k)
 
--- the sort
-pub record Smallest (E : ℕ → ℕ → Bool) (n : ℕ) (l : List ℕ) : Type 0 where
-  pub topo : Topo E n l
-  pub least : (k : List ℕ) → Topo E n k → LexLe l k
+-- the sort: the lexicographically smallest order of those that are live in which every step goes forward
+pub record Smallest (live : ℕ → Bool) (R : ℕ → ℕ → Type 0) (l : List ℕ) : Type 0 where
+  pub order : Forward live R l
+  pub least : (k : List ℕ) → Forward live R k → LexLe l k

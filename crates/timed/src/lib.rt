@@ -114,6 +114,16 @@ pub extern "C" fn timed_get_bfs(t: &[u32], v: VertexIndex, out: &mut [u32]) -> R
 }
 
 #[no_mangle]
+pub extern "C" fn timed_topological_sort(t: &[u32], out: &mut [u32]) -> Reply {
+    layout::reply_of(structural::topological_sort(t, out))
+}
+
+#[no_mangle]
+pub extern "C" fn timed_is_acyclic(t: &[u32]) -> Reply {
+    layout::reply_of(structural::is_acyclic(t))
+}
+
+#[no_mangle]
 pub extern "C" fn timed_random_walk(
     t: &[u32],
     start: VertexIndex,

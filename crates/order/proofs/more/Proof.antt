@@ -1,8 +1,8 @@
 -- `order::more` meets its contract. Assumes nothing.
-use Rattle.lists.specs.Tests.{bit}
+use borrow.Author.Tests.{eq-eqb, ne-eqb}
 use native.Mathlib.Omega.{arith}
 use mathlib.Core.Path.{ap}
-use borrow.Author.Tests.{eq-eqb, ne-eqb}
+use Rattle.lists.specs.Tests.{bit}
 use borrow.Author.Needs.{needs}
 use Rattle.order.proofs.more.Statement.{statement}
 use Rattle.order.proofs.more.Tie as tie

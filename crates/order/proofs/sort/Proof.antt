@@ -1,65 +1,59 @@
 -- `order::sort` meets its contract. Assumes nothing.
-use Rattle.graph.specs.Reach.{matrix}
-use Rattle.order.proofs.State.{sorting-first, sorting-room, sorting-owed, sorting-more, sorting-end}
-use Rattle.order.specs.State.{Sorting}
-use native.Mathlib.Omega.{arith}
-use mathlib.Core.Path.{refl}
 use Prim.Native.Nat.{_-_}
+use Rattle.graph.specs.Reach.{matrix}
+use Rattle.order.specs.State.{Sorting}
+use Rattle.order.proofs.State.{degrees-first, sorting-first, sorting-fits, sorting-word, sorting-next, sorting-less, sorting-owed, sorting-more, sorting-end}
+use borrow.Author.Needs.{needs}
 use Rattle.order.proofs.sort.Statement.{statement}
 use Rattle.order.proofs.sort.Tie as tie
 
 abbrev Inv-loop : tie.InvT-loop
-Inv-loop adj n order placed₀ need₀ out₀ t₀ v₀ placed need out t v = Sorting (matrix adj) n placed need out t v
+Inv-loop adj n order need₀ out₀ t₀ v₀ need out t v = Sorting (matrix adj) n need out t v
 
 abbrev μ-loop : tie.MeasureT-loop
-μ-loop adj n order placed₀ need₀ out₀ t₀ v₀ placed need out t v = n - t
+μ-loop adj n order need₀ out₀ t₀ v₀ need out t v = n - t
 
 degrees-requires : tie.Need-degrees-requires Inv-loop μ-loop
-degrees-requires c κs = (omega arith, refl)
+degrees-requires c κs = (search needs, search degrees-first)
 
 first-requires : tie.Need-first-requires Inv-loop μ-loop
-first-requires c κs = omega (arith, c .before .before .before .before .pre)
+first-requires c κs = search needs
 
 loop-holds : tie.Need-loop-holds Inv-loop μ-loop
-loop-holds c = sorting-first (c .before .before .before .before .before .pre) (c .before .before .before .degrees .ensures) (c .first .ensures)
+loop-holds c = search sorting-first
 
-array-write-placed : tie.Need-array-write-placed Inv-loop μ-loop
-array-write-placed c = omega (arith, c .before .before .before .before .before .before .before .pre)
+mul-need : tie.Need-mul-need Inv-loop μ-loop
+mul-need c = search needs
+
+array-write-need : tie.Need-array-write-need Inv-loop μ-loop
+array-write-need c = search needs
 
 cast-out : tie.Need-cast-out Inv-loop μ-loop
-cast-out c = omega arith
+cast-out c = search needs
 
 mul-out : tie.Need-mul-out Inv-loop μ-loop
-mul-out c = omega (arith, sorting-room (c .before .loop .inv) (c .loop-test .taken), c .before .before .before .before .before .before .before .pre)
+mul-out c = search sorting-word
 
 array-write-out : tie.Need-array-write-out Inv-loop μ-loop
-array-write-out c = omega (arith, sorting-room (c .before .loop .inv) (c .loop-test .taken), c .before .before .before .before .before .before .before .pre)
+array-write-out c = search sorting-fits
 
 settle-requires : tie.Need-settle-requires Inv-loop μ-loop
-settle-requires c κs =
-    let l = c .before .before in
-    (c .before .before .before .before .before .before .before .before .pre, c .before .loop-test .taken, l .loop .inv .needs .long, sorting-owed (l .loop .inv) (c .before .loop-test .taken))
+settle-requires c κs = (search needs, search needs, search sorting-owed)
 
 add-t : tie.Need-add-t Inv-loop μ-loop
-add-t c =
-    let l = c .before .before .before in
-    omega (arith, sorting-room (l .loop .inv) (c .before .before .loop-test .taken), c .before .before .before .before .before .before .before .before .before .pre)
+add-t c = search sorting-next
 
 first-requires-2 : tie.Need-first-requires-2 Inv-loop μ-loop
-first-requires-2 c κs = omega (arith, c .before .before .before .before .before .before .before .before .before .before .before .pre)
+first-requires-2 c κs = search needs
 
 loop-less : tie.Need-loop-less Inv-loop μ-loop
-loop-less c =
-    let l = c .before .before .before .before .before .before in
-    omega (arith, sorting-room (l .loop .inv) (c .before .before .before .before .before .loop-test .taken))
+loop-less c = search sorting-less
 
 loop-again : tie.Need-loop-again Inv-loop μ-loop
-loop-again c =
-    let l = c .before .before .before .before .before .before in
-    sorting-more (l .loop .inv) (c .before .before .before .before .before .loop-test .taken) (c .before .before .before .before .before .before .before .before .before .before .before .before .pre) (c .before .before .before .settle .ensures) (c .first2 .ensures)
+loop-again c = search sorting-more
 
 returns : tie.Need-returns Inv-loop μ-loop
-returns c = sorting-end (c .before .loop .inv) (c .loop-test .left)
+returns c = search sorting-end
 
 pub sort-spec : {M : Type 1} → statement M
 sort-spec =
@@ -70,7 +64,8 @@ sort-spec =
     degrees-requires
     first-requires
     loop-holds
-    array-write-placed
+    mul-need
+    array-write-need
     cast-out
     mul-out
     array-write-out

@@ -1,0 +1,4 @@
+pub mod SortingRecords
+pub mod Sorting
+pub mod SortingAnswers
+pub mod SortingSheets
