@@ -33,19 +33,6 @@ module _ (E : ℕ → ℕ → Bool) where
   unfolding push
   push-old x q j e = rw (e, and-false)
 
-  -- the round from j on, one number at a time: the code's loop
-  pub spread-step : (n x j : ℕ) (q : List ℕ) → j < n → spread E x (n - j) j q ≡ spread E x (n - (j + 1)) (j + 1) (push E x q j)
-  unfolding spread
-  spread-step n x j q l =
-      let e : n - j ≡ suc (n - (j + 1)) = omega arith in
-      rw (e, add-one j)
-
-  pub spread-end : (n x j : ℕ) (q : List ℕ) → n ≤ j → spread E x (n - j) j q ≡ q
-  unfolding spread
-  spread-end n x j q l =
-      let e : n - j ≡ 0 = omega arith in
-      rw e
-
   -- what a new number keeps, the whole round keeps
   pub push-keeps : (P : List ℕ → Type 0) (x : ℕ) (q : List ℕ) (j : ℕ)
       → (E x j ≡ true → memb j q ≡ false → P (q ++ (j ∷ []))) → P q → P (push E x q j)

@@ -1,19 +1,21 @@
 -- What the code's arrays hold while the queue is served: marks m, one for each number, and the queue itself in the first t places of o.
 -- Assumes nothing.
 use mathlib.Core.Path.{_≡_, refl, sym, ap, _∙_, subst}
-use mathlib.Core.Bool.{true, false}
+use mathlib.Core.Bool.{Bool, true, false, cond}
 use mathlib.Core.List.{List, [], _∷_, _++_}
 use Prim.Native.Nat.{ℕ, _+_, _≤_, _<_}
+use native.Mathlib.Nat.{add-zero}
 use native.Mathlib.Numerals.{add-one}
 use native.Mathlib.Omega.{arith}
 use lib.ListN.{getD, take, set, length-set, length-append, replicate, length-replicate, getD-replicate}
-use lib.Seq.{take-suc-set, getD-set-same, getD-set-other, getD-take}
+use mir.Val.{boolByte}
+use lib.Seq.{take-suc-set, take-set-le, getD-set-same, getD-set-other, getD-take}
 use Rattle.lists.proofs.Cases.{on, on-same}
 use Rattle.lists.proofs.Count.{room, pigeon}
 use Rattle.lists.proofs.Memb.{memb-snoc-self, memb-snoc-other, distinct-snoc, below-snoc, below-memb, memb-getD}
 use Rattle.lists.specs.Lists.{memb}
 use Rattle.lists.specs.Tests.{bit}
-use Rattle.graph.specs.Held.{Held}
+use Rattle.graph.specs.Held.{Held, Queued}
 
 module _ {n : ℕ} {m o : List ℕ} {t : ℕ} {q : List ℕ} (h : Held n m o t q) where
   pub held-as : {q′ : List ℕ} → q′ ≡ q → Held n m o t q′
@@ -25,9 +27,6 @@ module _ {n : ℕ} {m o : List ℕ} {t : ℕ} {q : List ℕ} (h : Held n m o t q
       where
         no-one : _≡_ {A = ℕ} 0 1 → ⊥
         no-one e = omega arith
-
-    pub held-old : (getD m j 0 ≡ 0 → ⊥) → memb j q ≡ true
-    held-old z = on (memb j q) (λ e. e) (λ e. absurd (z (h .marks j l ∙ ap bit e)))
 
     pub held-room : getD m j 0 ≡ 0 → t < n
     held-room z = omega (arith, h .count, room q n j (h .once) (h .below) l (held-new z))
@@ -44,6 +43,21 @@ module _ {n : ℕ} {m o : List ℕ} {t : ℕ} {q : List ℕ} (h : Held n m o t q
           (λ ne. getD-set-other m j i 1 0 ne ∙ h .marks i li ∙ sym (ap bit (memb-snoc-other i j q ne)));
       once = distinct-snoc q j (h .once) (held-new z);
       below = below-snoc n q j (h .below) l;
+    }
+
+    -- where b, j joins; else what was stored beside the queue and the mark say nothing
+    pub held-put : n ≤ 256 → getD m j 0 ≡ 0 → (b : Bool) → Held n (set m j (boolByte b)) (set o t j) (t + boolByte b) (cond b (q ++ (j ∷ [])) q)
+    held-put s z true = held-more s z
+    held-put s z false = rw (add-zero t) record {
+      wide = length-set m j 0 ∙ h .wide;
+      long = length-set o t j ∙ h .long;
+      queue = take-set-le t o t j (omega arith) ∙ h .queue;
+      count = h .count;
+      marks = λ i li. on-same i j
+          (λ e. subst (λ (k : ℕ). getD (set m j 0) k 0 ≡ bit (memb k q)) (sym e) (getD-set-same m j 0 0 (omega (arith, h .wide)) ∙ sym z ∙ h .marks j l))
+          (λ ne. getD-set-other m j i 0 0 ne ∙ h .marks i li);
+      once = h .once;
+      below = h .below;
     }
 
 -- before the first number: no mark
@@ -70,3 +84,6 @@ held-none n b = record {
   once = tt;
   below = tt;
 }
+
+pub queued-as : {n : ℕ} {m o r : List ℕ} {t : ℕ} {q : List ℕ} → Queued n m o r t q → {q′ : List ℕ} → q′ ≡ q → Queued n m o r t q′
+queued-as {n} {m} {o} {r} {t} h e = subst (λ (l : List ℕ). Queued n m o r t l) (sym e) h

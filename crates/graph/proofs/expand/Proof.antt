@@ -1,52 +1,121 @@
--- `graph::expand` meets its contract. The invariant: what is left of the round, from j on, makes of the queue so far what the whole round makes of it at the start.
--- Assumes nothing.
-use Rattle.graph.proofs.Bfs.{spread-step, spread-end}
-use Rattle.graph.proofs.Held.{held-as}
-use Rattle.graph.specs.Bfs.{spread}
-use Rattle.graph.specs.Held.{Held}
+-- `graph::expand` meets its contract: `Sifted` at each of the numbers outside the queue. Assumes nothing.
 use Rattle.graph.specs.Reach.{matrix}
-use mathlib.Core.Path.{_≡_, sym, ap, _∙_}
-use Prim.Native.Nat.{_-_, _≤_}
-use native.Mathlib.Nat.{sub-zero}
+use Rattle.graph.specs.Sifted.{Sifted}
+use Rattle.graph.proofs.Held.{held-short}
+use Rattle.graph.proofs.Outside.{byte-le}
+use Rattle.graph.proofs.Sifted.{sifted-first, sifted-below, sifted-more, sifted-end}
+use mathlib.Core.Path.{refl}
 use native.Mathlib.Omega.{arith}
-use lib.ListN.{take}
+use lib.ListN.{take, getD}
+use Prim.Native.Nat.{_-_}
 use Rattle.graph.proofs.expand.Statement.{statement}
 use Rattle.graph.proofs.expand.Tie as tie
 
 abbrev Inv-loop : tie.InvT-loop
-Inv-loop adj n x marks₀ order₀ tail end₀ j₀ marks order end j =
-    (j ≤ n) × Held n marks order end (take end order)
-    × (spread (matrix adj) x (n - j) j (take end order) ≡ spread (matrix adj) x n 0 (take tail order₀))
+Inv-loop adj n x marks₀ order₀ rest₀ tail c end₀ k₀ marks order rest end k = Sifted (matrix adj) n x tail (take tail order₀) marks order rest end k
 
 abbrev μ-loop : tie.MeasureT-loop
-μ-loop adj n x marks₀ order₀ tail end₀ j₀ marks order end j = n - j
+μ-loop adj n x marks₀ order₀ rest₀ tail c end₀ k₀ marks order rest end k = n - tail - k
+
+sub-c : tie.Need-sub-c Inv-loop μ-loop
+sub-c c = omega (arith, held-short (c .pre .2 .held))
 
 loop-holds : tie.Need-loop-holds Inv-loop μ-loop
-loop-holds c = (omega arith, c .pre .2, rw sub-zero)
+loop-holds c = sifted-first (c .pre .0) (c .pre .2)
 
-touch-requires : tie.Need-touch-requires Inv-loop μ-loop
-touch-requires c κs = (omega arith, omega arith, omega arith, c .before .before .before .loop .inv .1)
+mul-j : tie.Need-mul-j Inv-loop μ-loop
+mul-j c = omega arith
 
-add-j : tie.Need-add-j Inv-loop μ-loop
-add-j c = omega arith
+element-copy-out-j : tie.Need-element-copy-out-j Inv-loop μ-loop
+element-copy-out-j c = omega arith
+
+cast-j : tie.Need-cast-j Inv-loop μ-loop
+cast-j c = omega (arith, sifted-below (c .before .before .loop .inv) (c .before .loop-test .taken))
+
+mul-leads : tie.Need-mul-leads Inv-loop μ-loop
+mul-leads c = omega arith
+
+add-leads : tie.Need-add-leads Inv-loop μ-loop
+add-leads c = omega (arith, sifted-below (c .before .before .loop .inv) (c .before .loop-test .taken))
+
+element-copy-out-leads : tie.Need-element-copy-out-leads Inv-loop μ-loop
+element-copy-out-leads c = omega (arith, sifted-below (c .before .before .loop .inv) (c .before .loop-test .taken))
+
+cast-order : tie.Need-cast-order Inv-loop μ-loop
+cast-order c = omega (arith, sifted-below (c .before .before .before .loop .inv) (c .before .before .loop-test .taken))
+
+mul-order : tie.Need-mul-order Inv-loop μ-loop
+mul-order c = omega arith
+
+element-write-order : tie.Need-element-write-order Inv-loop μ-loop
+element-write-order c = omega arith
+
+cast-rest : tie.Need-cast-rest Inv-loop μ-loop
+cast-rest c = omega (arith, sifted-below (c .before .before .before .loop .inv) (c .before .before .loop-test .taken))
+
+add-rest : tie.Need-add-rest Inv-loop μ-loop
+add-rest c = omega arith
+
+sub-rest : tie.Need-sub-rest Inv-loop μ-loop
+sub-rest c = omega arith
+
+mul-rest : tie.Need-mul-rest Inv-loop μ-loop
+mul-rest c = omega arith
+
+element-write-rest : tie.Need-element-write-rest Inv-loop μ-loop
+element-write-rest c = omega arith
+
+cast-marks : tie.Need-cast-marks Inv-loop μ-loop
+cast-marks c = omega arith
+
+element-write-marks : tie.Need-element-write-marks Inv-loop μ-loop
+element-write-marks c = omega (arith, sifted-below (c .before .before .before .loop .inv) (c .before .before .loop-test .taken))
+
+cast-end : tie.Need-cast-end Inv-loop μ-loop
+cast-end c = omega arith
+
+add-end : tie.Need-add-end Inv-loop μ-loop
+add-end c = let l = c .before .before .before in omega (arith, byte-le (matrix (l .before .args .adj .now) (l .before .args .x) (getD (l .loop .rest) (l .loop .k) 0)))
+
+add-k : tie.Need-add-k Inv-loop μ-loop
+add-k c = omega arith
 
 loop-less : tie.Need-loop-less Inv-loop μ-loop
 loop-less c = omega arith
 
 loop-again : tie.Need-loop-again Inv-loop μ-loop
-loop-again c =
-    let l = c .before .before .before .before in (
-      omega arith,
-      held-as (c .touch .ensures) (c .touch .ensures .queue),
-      ap (spread _ _ _ _) (c .touch .ensures .queue) ∙ sym (spread-step _ _ _ _ _ (c .before .before .before .loop-test .taken)) ∙ l .loop .inv .2,
-    )
+loop-again c = let l = c .before .before .before in sifted-more (l .loop .inv) (c .before .before .loop-test .taken) (l .before .pre .0) _ refl
 
 returns : tie.Need-returns Inv-loop μ-loop
-returns c =
-    let at = c .before .loop .inv in
-    held-as (at .1) (sym (at .2) ∙ spread-end _ _ _ _ _ (c .loop-test .left))
+returns c = sifted-end (c .before .loop .inv) (c .loop-test .left) (held-short (c .before .before .pre .2 .held))
 
 pub expand-spec : {M : Type 1} → statement M
 expand-spec =
     tie.close
-    (tie.spec Inv-loop μ-loop loop-holds touch-requires add-j loop-less loop-again returns)
+    (tie.spec
+    Inv-loop
+    μ-loop
+    sub-c
+    loop-holds
+    mul-j
+    element-copy-out-j
+    cast-j
+    mul-leads
+    add-leads
+    element-copy-out-leads
+    cast-order
+    mul-order
+    element-write-order
+    cast-rest
+    add-rest
+    sub-rest
+    mul-rest
+    element-write-rest
+    cast-marks
+    element-write-marks
+    cast-end
+    add-end
+    add-k
+    loop-less
+    loop-again
+    returns)
