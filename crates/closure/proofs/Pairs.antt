@@ -1,5 +1,5 @@
 -- The words of the pairs: how many there are, and how they are written. Assumes nothing.
-use mathlib.Core.Path.{_≡_, refl, sym, ap, ap₂, _∙_}
+use mathlib.Core.Path.{_≡_, refl, sym, ap, _∙_}
 use mathlib.Core.Bool.{Bool, true, false, not}
 use mathlib.Core.List.{List, [], _∷_, _++_, append-assoc}
 use Prim.Native.Nat.{ℕ, zero, suc, _+_, _*_, _-_, _≤_, _<_}
@@ -20,7 +20,7 @@ use Rattle.layout.proofs.Answers.{listed-over, listed-fits}
 use Rattle.graph.specs.Reach.{matrix}
 use Rattle.components.specs.Classes.{upTo}
 use Rattle.components.specs.Parts.{Written}
-use Rattle.components.proofs.Blocks.{blocks-suc}
+use Rattle.components.proofs.Blocks.{blocks-suc, blocks-ext}
 use Rattle.closure.specs.Pairs.{apart, others, pairWords, rowWords, pairsWords}
 use Rattle.closure.specs.State.{pairsBelow}
 
@@ -139,13 +139,5 @@ module _ (f : ℕ → ℕ) (E F : ℕ → ℕ → Bool) (n : ℕ) (h : (i j : �
   unfolding rowWords apart
   row-ext x l = ap (flat (pairWords f x)) (chosen-ext (apart E x) (apart F x) n (λ y k. ap (λ (b : Bool). not (eqb x y) and b) (h x y l k)))
 
-  pairs-ext-upto : (k : ℕ) → k ≤ n → flat (rowWords f E n) (upTo k) ≡ flat (rowWords f F n) (upTo k)
-  unfolding flat Rattle.lists.specs.Lists.tab
-  pairs-ext-upto zero l = refl
-  pairs-ext-upto (suc k) l =
-      ap (λ (i : ℕ). flat (rowWords f E n) (upTo i)) (sym (add-one k)) ∙ blocks-suc (rowWords f E n) k
-      ∙ ap₂ (λ (a b : List ℕ). a ++ b) (pairs-ext-upto k (omega arith)) (row-ext k (omega arith))
-      ∙ sym (blocks-suc (rowWords f F n) k) ∙ ap (λ (i : ℕ). flat (rowWords f F n) (upTo i)) (add-one k)
-
   pub pairs-ext : pairsWords f E n ≡ pairsWords f F n
-  pairs-ext = pairs-ext-upto n (omega arith)
+  pairs-ext = blocks-ext (rowWords f E n) (rowWords f F n) n row-ext

@@ -1,5 +1,5 @@
 -- Lists of words one after the other, each written into the part of a slice after the one before; and the words of all classes. Assumes nothing.
-use mathlib.Core.Path.{_≡_, refl, sym, ap, _∙_}
+use mathlib.Core.Path.{_≡_, refl, sym, ap, ap₂, _∙_}
 use mathlib.Core.Bool.{Bool, true, false}
 use mathlib.Core.List.{List, [], _∷_, _++_, map}
 use Prim.Native.Nat.{ℕ, zero, suc, _+_, _-_, _≤_, _<_}
@@ -12,30 +12,46 @@ use borrow.Author.Tests.{eq-eqb, ne-eqb, le-leb, lt-leb}
 use Rattle.lists.specs.Tests.{bit, count, chosen}
 use Rattle.lists.specs.Lists.{flat, over}
 use Rattle.lists.proofs.Cases.{on-same, on-below}
-use Rattle.lists.proofs.Tab.{tab-suc}
-use Rattle.lists.proofs.Flat.{flat-snoc}
+use Rattle.lists.proofs.Tab.{tab-suc, map-tab}
+use Rattle.lists.proofs.Flat.{flat-snoc, tab-getD}
 use Rattle.lists.proofs.Parts.{part-tail, back-tail}
 use Rattle.lists.proofs.Count.{count-all}
-use Rattle.lists.proofs.Chosen.{over-none, over-more, over-part, over-length}
+use Rattle.lists.proofs.Chosen.{chosen-ext, over-none, over-more, over-part, over-length}
 use Rattle.layout.specs.declared.Answer.the-variants.{Done, NoRoom}
 use Rattle.layout.specs.Answers.{result, listed}
 use Rattle.layout.proofs.Answers.{listed-over, listed-fits}
 use Rattle.marks.proofs.Marked.{picked-length}
-use Rattle.components.specs.Classes.{upTo, counted}
-use Rattle.components.specs.Parts.{inClass, Filled, classWords, partWords, Written}
+use Rattle.components.specs.Classes.{class, rootsOf, classes, upTo, counted}
+use Rattle.components.specs.Parts.{inClass, Filled, Partition, classWords, partWords, Written}
 
 -- ---- blocks: h k is the k-th
 
-module _ (h : ℕ → List ℕ) where
-  pub blocks-suc : (k : ℕ) → flat h (upTo (k + 1)) ≡ flat h (upTo k) ++ h k
-  blocks-suc k = rw (add-one k, tab-suc (λ i. i) k) (flat-snoc h (upTo k) k)
+pub flat-map : {A B : Type 0} (g : B → List ℕ) (f : A → B) (l : List A) → flat g (map f l) ≡ flat (λ x. g (f x)) l
+unfolding flat
+flat-map g f [] = refl
+flat-map g f (x ∷ l) = ap (λ (r : List ℕ). g (f x) ++ r) (flat-map g f l)
 
-  pub blocks-upto : (n k : ℕ) → k ≤ n → length (flat h (upTo k)) ≤ length (flat h (upTo n))
-  blocks-upto zero k l = let e : k ≡ 0 = omega arith in rw e (omega arith)
-  blocks-upto (suc n) k l =
-      on-same k (suc n)
-      (λ e. rw e (omega arith))
-      (λ e. omega (arith, blocks-upto n k (omega arith), ap (λ (i : ℕ). length (flat h (upTo i))) (add-one n), ap length (blocks-suc n), length-append (flat h (upTo n)) (h n)))
+pub blocks-suc : (h : ℕ → List ℕ) (k : ℕ) → flat h (upTo (k + 1)) ≡ flat h (upTo k) ++ h k
+blocks-suc h k = rw (add-one k, tab-suc (λ i. i) k) (flat-snoc h (upTo k) k)
+
+blocks-upto : (h : ℕ → List ℕ) (n k : ℕ) → k ≤ n → length (flat h (upTo k)) ≤ length (flat h (upTo n))
+blocks-upto h zero k l = let e : k ≡ 0 = omega arith in rw e (omega arith)
+blocks-upto h (suc n) k l =
+    on-same k (suc n)
+    (λ e. rw e (omega arith))
+    (λ e. omega (arith, blocks-upto h n k (omega arith), ap (λ (i : ℕ). length (flat h (upTo i))) (add-one n), ap length (blocks-suc h n), length-append (flat h (upTo n)) (h n)))
+
+pub blocks-ext : (g h : ℕ → List ℕ) (n : ℕ) → ((k : ℕ) → k < n → g k ≡ h k) → flat g (upTo n) ≡ flat h (upTo n)
+unfolding flat Rattle.lists.specs.Lists.tab
+blocks-ext g h zero e = refl
+blocks-ext g h (suc n) e =
+    ap (λ (i : ℕ). flat g (upTo i)) (sym (add-one n)) ∙ blocks-suc g n
+    ∙ ap₂ (λ (a b : List ℕ). a ++ b) (blocks-ext g h n (λ k l. e k (omega arith))) (e n (omega arith))
+    ∙ sym (blocks-suc h n) ∙ ap (λ (i : ℕ). flat h (upTo i)) (add-one n)
+
+-- a block for each element of a list, by its place
+pub blocks-list : (g : ℕ → List ℕ) (l : List ℕ) → flat (λ k. g (getD l k 0)) (upTo (length l)) ≡ flat g l
+blocks-list g l = sym (flat-map g (λ k. getD l k 0) (upTo (length l))) ∙ ap (flat g) (map-tab (λ k. getD l k 0) (λ i. i) (length l) ∙ tab-getD l 0)
 
 -- the first k are written
 pub record Blocks (h : ℕ → List ℕ) (a₀ : List ℕ) (k at : ℕ) (a : List ℕ) : Type 0 where
@@ -152,3 +168,17 @@ module _ (f : ℕ → ℕ) (ids : List ℕ) (n c : ℕ) (h : Filled n c ids) whe
 
   pub classes-room : (out : List ℕ) (need : ℕ) → need ≡ n + c → need ≤ length out → length (partWords f ids n c) ≤ length out
   classes-room out need e l = omega (arith, words-number)
+
+-- ---- the words of a partition are those of its classes
+
+pub partition-words : (f : ℕ → ℕ) {P : ℕ → ℕ → Bool} {n : ℕ} {order ids : List ℕ} {c : ℕ} → Partition P n order ids c
+    → partWords f ids n c ≡ flat counted (map (map f) (classes P n order))
+unfolding classes classWords
+partition-words f {P} {n} {order} {ids} {c} h =
+    let roots : List ℕ = rootsOf P order in
+    let words : ℕ → List ℕ = λ r. counted (map f (class P n r)) in
+    ap (λ (i : ℕ). flat (classWords f ids n) (upTo i)) (h .parted .number)
+    ∙ blocks-ext (classWords f ids n) (λ k. words (getD roots k 0)) (length roots)
+    (λ k l. ap (λ (m : List ℕ). counted (map f m)) (chosen-ext (inClass ids (k + 1)) (P (getD roots k 0)) n (λ v lv. rw (add-one k) (h .parted .is k v l lv))))
+    ∙ blocks-list words roots
+    ∙ sym (flat-map counted (map f) (map (class P n) roots) ∙ flat-map (λ m. counted (map f m)) (class P n) roots)

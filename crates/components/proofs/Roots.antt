@@ -1,5 +1,5 @@
 -- The roots of an order: each joined with none before it, and every number of the order with one of them. Assumes nothing.
-use mathlib.Core.Path.{_≡_, refl, sym, ap, _∙_}
+use mathlib.Core.Path.{_≡_, refl, ap, ap₂, _∙_}
 use mathlib.Core.Bool.{Bool, true, false, _||_}
 use mathlib.Core.Logic.{⊎-elim}
 use mathlib.Core.List.{List, [], _∷_, _++_, map}
@@ -69,3 +69,31 @@ module _ (P : ℕ → ℕ → Bool) where
 
   pub roots-below : (n : ℕ) (rs : List ℕ) → Below n rs → Below n (rootsOf P rs)
   roots-below n rs b = roots-keep (Below n) n (λ l r h _ q. below-snoc n l r q h) rs b [] tt
+
+-- ---- classes see of a relation what it says of the numbers below n
+
+module _ (P Q : ℕ → ℕ → Bool) (n : ℕ) (h : (i j : ℕ) → i < n → j < n → P i j ≡ Q i j) where
+  joined-ext : (r : ℕ) → r < n → (roots : List ℕ) → Below n roots → any (turned P r) roots ≡ any (turned Q r) roots
+  unfolding any
+  joined-ext r l [] b = refl
+  joined-ext r l (x ∷ roots) b = ap₂ (λ (p q : Bool). p || q) (h x r (b .0) l) (joined-ext r l roots (b .1))
+
+  rooted-ext : (roots : List ℕ) (r : ℕ) → Below n roots → r < n → rooted P roots r ≡ rooted Q roots r
+  unfolding rooted
+  rooted-ext roots r b l = rw (joined-ext r l roots b)
+
+  roots-ext : (rs : List ℕ) → Below n rs → (roots : List ℕ) → Below n roots → rootsFrom P roots rs ≡ rootsFrom Q roots rs
+  unfolding rootsFrom
+  roots-ext [] c roots b = refl
+  roots-ext (r ∷ rs) c roots b =
+      ap (λ (l : List ℕ). rootsFrom P l rs) (rooted-ext roots r b (c .0))
+      ∙ roots-ext rs (c .1) (rooted Q roots r)
+      (on (any (turned Q r) roots) (λ e. rw (rooted-old Q roots r e) b) (λ e. rw (rooted-new Q roots r e) (below-snoc n roots r b (c .0))))
+
+  class-list : (rs : List ℕ) → Below n rs → map (class P n) rs ≡ map (class Q n) rs
+  class-list [] b = refl
+  class-list (r ∷ rs) b = ap₂ (λ (x : List ℕ) (xs : List (List ℕ)). x ∷ xs) (chosen-ext (P r) (Q r) n (λ v l. h r v (b .0) l)) (class-list rs (b .1))
+
+  pub classes-ext : (order : List ℕ) → Below n order → classes P n order ≡ classes Q n order
+  unfolding classes
+  classes-ext order b = class-list (rootsOf P order) (roots-below P n order b) ∙ ap (map (class Q n)) (roots-ext order b [] tt)

@@ -1,2 +1,3 @@
 pub mod Shared
 pub mod Latest
+pub mod Ext
