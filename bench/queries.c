@@ -23,13 +23,17 @@ reply timed_is_reachable(T, uint32_t from, uint32_t to);
 reply timed_get_bfs(T, uint32_t vertex, OUT);
 reply timed_topological_sort(T, OUT);
 reply timed_is_acyclic(T);
+reply timed_is_connected(T);
+reply timed_connected_components(T, OUT);
+reply timed_strongly_connected_components(T, OUT);
+reply timed_get_transitive_closure(T, OUT);
 reply timed_random_walk(T, uint32_t start, size_t steps, uint64_t seed, OUT);
 reply timed_write_frames(T, uint8_t *text, size_t text_bytes);
 
-enum { ROOM = 70000 };
+enum { ROOM = 131072 };
 
-static uint32_t full[WORDS], ascending[WORDS], out[ROOM];
-static uint8_t text[8 * ROOM];
+static uint32_t full[WORDS], ascending[WORDS], alone[WORDS], out[ROOM];
+static uint8_t text[4 * ROOM];
 
 #define ANSWER(what, table, expected, limit_ns, call)                 \
     do {                                                              \
@@ -41,11 +45,23 @@ static uint8_t text[8 * ROOM];
         TIME(what, table, limit_ns, r = call);                        \
     } while (0)
 
+/* One call a round, for those that take milliseconds. */
+#define ANSWER_SLOW(what, table, expected, limit_ns, call)            \
+    do {                                                              \
+        reply r = call;                                               \
+        if (r.number != expected) {                                   \
+            printf("%s: answered %u\n", what, r.number);              \
+            exit(1);                                                  \
+        }                                                             \
+        TIME_SLOW(what, table, limit_ns, r = call);                   \
+    } while (0)
+
 #define QUERY(what, limit_ns, call) ANSWER(what, "full, dense numbers", 0, limit_ns, call)
 
 int main(void) {
     fill_dense(full);
     fill_ascending(ascending);
+    fill_alone(alone);
     puts("Queries, the test of the table included.");
     table_head();
     QUERY("adjacent_vertices_from", 8000, timed_get_adjacent_vertices_from(full, WORDS, 100, out, ROOM));
@@ -61,6 +77,12 @@ int main(void) {
     ANSWER("topological_sort", "full, dense, lists ascending", 0, 120000, timed_topological_sort(ascending, WORDS, out, ROOM));
     ANSWER("topological_sort, refused", "full, dense numbers", 9, 120000, timed_topological_sort(full, WORDS, out, ROOM));
     ANSWER("is_acyclic", "full, dense, lists ascending", 0, 120000, timed_is_acyclic(ascending, WORDS));
+    QUERY("is_connected", 80000, timed_is_connected(full, WORDS));
+    QUERY("connected_components", 80000, timed_connected_components(full, WORDS, out, ROOM));
+    QUERY("strong components", 400000, timed_strongly_connected_components(full, WORDS, out, ROOM));
+    ANSWER("strong components, 256", "full, dense, lists ascending", 0, 400000, timed_strongly_connected_components(ascending, WORDS, out, ROOM));
+    ANSWER("connected components, 256", "256 vertices, no hyperedge", 0, 80000, timed_connected_components(alone, WORDS, out, ROOM));
+    ANSWER_SLOW("closure", "full, dense numbers", 0, 10000000, timed_get_transitive_closure(full, WORDS, out, ROOM));
     QUERY("write_frames", 200000, timed_write_frames(full, WORDS, text, sizeof text));
     QUERY("random_walk of 64 steps", 140625, timed_random_walk(full, WORDS, 0, 64, 1, out, ROOM));
     return 0;

@@ -31,20 +31,27 @@ static void table_row(const char *what, const char *table, double limit_ns) {
 }
 
 /* Fills `times` with the time of a call, each round's mean. */
-#define MEASURE(call)                              \
+#define MEASURE(calls, call)                       \
     for (int round = 0; round < ROUNDS; round++) { \
         double began = now_ns();                   \
-        for (int k = 0; k < CALLS; k++) {          \
+        for (int k = 0; k < (calls); k++) {        \
             call;                                  \
             __asm__ volatile("" ::: "memory");     \
         }                                          \
-        times[round] = (now_ns() - began) / CALLS; \
+        times[round] = (now_ns() - began) / (calls); \
     }
 
 /* A row for a call. */
 #define TIME(what, table, limit_ns, call)    \
     do {                                     \
-        MEASURE(call)                        \
+        MEASURE(CALLS, call)                 \
         table_row(what, table, limit_ns);    \
+    } while (0)
+
+/* One call a round. */
+#define TIME_SLOW(what, table, limit_ns, call) \
+    do {                                       \
+        MEASURE(1, call)                       \
+        table_row(what, table, limit_ns);      \
     } while (0)
 #endif

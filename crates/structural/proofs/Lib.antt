@@ -2,3 +2,5 @@ pub mod SortingRecords
 pub mod Sorting
 pub mod SortingAnswers
 pub mod SortingSheets
+pub mod ComponentsAnswers
+pub mod ClosureAnswers

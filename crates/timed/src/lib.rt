@@ -124,6 +124,26 @@ pub extern "C" fn timed_is_acyclic(t: &[u32]) -> Reply {
 }
 
 #[no_mangle]
+pub extern "C" fn timed_is_connected(t: &[u32]) -> Reply {
+    layout::reply_of(structural::is_connected(t))
+}
+
+#[no_mangle]
+pub extern "C" fn timed_connected_components(t: &[u32], out: &mut [u32]) -> Reply {
+    layout::reply_of(structural::connected_components(t, out))
+}
+
+#[no_mangle]
+pub extern "C" fn timed_strongly_connected_components(t: &[u32], out: &mut [u32]) -> Reply {
+    layout::reply_of(structural::strongly_connected_components(t, out))
+}
+
+#[no_mangle]
+pub extern "C" fn timed_get_transitive_closure(t: &[u32], out: &mut [u32]) -> Reply {
+    layout::reply_of(structural::get_transitive_closure(t, out))
+}
+
+#[no_mangle]
 pub extern "C" fn timed_random_walk(
     t: &[u32],
     start: VertexIndex,
