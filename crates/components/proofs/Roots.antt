@@ -4,14 +4,18 @@ use mathlib.Core.Bool.{Bool, true, false, _||_}
 use mathlib.Core.Logic.{⊎-elim}
 use mathlib.Core.List.{List, [], _∷_, _++_, map}
 use Prim.Native.Nat.{ℕ, _<_}
+use native.Mathlib.Nat.{not-suc-le-zero}
+use native.Mathlib.Omega.{arith}
 use lib.Dec.{eqb}
+use lib.ListN.{length, getD, length-append, List·getD-append}
+use lib.Seq.{getD-append-seam}
 use borrow.Author.Tests.{eqb-true}
 use Rattle.lists.specs.Lists.{memb, any, Below}
-use Rattle.lists.proofs.Cases.{on, clash, or-true, or-right}
+use Rattle.lists.proofs.Cases.{on, on-same, clash, or-true, or-right}
 use Rattle.lists.proofs.Chosen.{chosen-ext}
 use Rattle.lists.proofs.Memb.{below-snoc}
 use Rattle.steps.specs.Matrices.{turned}
-use Rattle.steps.proofs.Any.{any-snoc}
+use Rattle.steps.proofs.Any.{any-snoc, any-of}
 use Rattle.components.specs.Classes.{class, rooted, rootsFrom, rootsOf, classes}
 
 -- a relation whose classes part the numbers below n: each is joined with itself, and two that are joined with one with each other
@@ -97,3 +101,21 @@ module _ (P Q : ℕ → ℕ → Bool) (n : ℕ) (h : (i j : ℕ) → i < n → j
   pub classes-ext : (order : List ℕ) → Below n order → classes P n order ≡ classes Q n order
   unfolding classes
   classes-ext order b = class-list (rootsOf P order) (roots-below P n order b) ∙ ap (map (class Q n)) (roots-ext order b [] tt)
+
+-- ---- each root is in the class of no root before it
+
+abbrev Apart : (ℕ → ℕ → Bool) → List ℕ → Type 0
+Apart P roots = (j k : ℕ) → j < k → k < length roots → P (getD roots j 0) (getD roots k 0) ≡ false
+
+apart-snoc : (P : ℕ → ℕ → Bool) (roots : List ℕ) (r : ℕ) → any (turned P r) roots ≡ false → Apart P roots → Apart P (roots ++ (r ∷ []))
+apart-snoc P roots r e h j k l b =
+    let lj : j < length roots = omega (arith, length-append roots (r ∷ [])) in
+    on-same k (length roots)
+    (λ s. rw (s, getD-append-seam roots r [] 0, List·getD-append roots (r ∷ []) 0 j lj)
+    (on (P (getD roots j 0) r) (λ p. clash (any-of (turned P r) roots 0 j lj p) e) (λ p. p)))
+    (λ s.
+    let lk : k < length roots = omega (arith, length-append roots (r ∷ [])) in
+    rw (List·getD-append roots (r ∷ []) 0 k lk, List·getD-append roots (r ∷ []) 0 j lj) (h j k l lk))
+
+pub roots-apart : (P : ℕ → ℕ → Bool) (n : ℕ) (order : List ℕ) → Below n order → Apart P (rootsOf P order)
+roots-apart P n order b = roots-keep P (Apart P) n (λ roots r _ e h. apart-snoc P roots r e h) order b [] (λ j k l z. absurd (not-suc-le-zero z))

@@ -4,3 +4,5 @@ pub mod SortingAnswers
 pub mod SortingSheets
 pub mod ComponentsAnswers
 pub mod ClosureAnswers
+pub mod Components
+pub mod ComponentsSheets
