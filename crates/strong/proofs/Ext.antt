@@ -1,7 +1,7 @@
 -- The strong components see of a relation what it says of the numbers below n. Assumes nothing.
 use mathlib.Core.Path.{_≡_, refl, ap, ap₂, _∙_}
-use mathlib.Core.Bool.{Bool, true, _&&_, cond}
-use mathlib.Core.List.{List, reverse}
+use mathlib.Core.Bool.{Bool, cond}
+use mathlib.Core.List.{reverse}
 use Prim.Native.Nat.{ℕ, zero, suc, _+_, _≤_, _<_}
 use native.Mathlib.Omega.{arith}
 use Rattle.lists.specs.Tests.{_and_}

@@ -4,9 +4,8 @@ use mathlib.Core.Bool.{Bool, true, not}
 use mathlib.Core.List.{List, map}
 use Prim.Native.Nat.{ℕ, _<_}
 use lib.Dec.{eqb}
-use lib.ListN.{length}
 use borrow.Author.Tests.{eq-eqb, ne-eqb, eqb-true, not-true}
-use Rattle.lists.specs.Tests.{_and_, chosen}
+use Rattle.lists.specs.Tests.{_and_}
 use Rattle.lists.specs.Lists.{memb, filter, flat, tab}
 use Rattle.lists.proofs.Cases.{clash, test-ext, and-left, and-right, and-both}
 use Rattle.lists.proofs.Tab.{map-tab}
@@ -30,7 +29,7 @@ use Rattle.traversal.specs.Traversal.{reachable}
 use Rattle.traversal.proofs.Walks.{reachable-walk, walk-reachable}
 use Rattle.components.specs.Classes.{reached, upTo}
 use Rattle.components.proofs.Blocks.{flat-map, blocks-ext}
-use Rattle.closure.specs.Pairs.{apart, others, pairWords, rowWords, pairsWords}
+use Rattle.closure.specs.Pairs.{apart, others, rowWords, pairsWords}
 use Rattle.closure.specs.State.{Closure}
 use Rattle.closure.proofs.Closing.{closure-matrix}
 use Rattle.closure.proofs.Pairs.{pairs-ext}

@@ -17,7 +17,7 @@ use Rattle.layout.specs.WellFormed.{Formed}
 use Rattle.layout.specs.Steps.{hasStep}
 use Rattle.layout.proofs.Read.{live-length}
 use Rattle.graph.proofs.Bfs.{bfs-sound, bfs-complete}
-use Rattle.steps.specs.Matrices.{linked, TogetherIn, numberOf, stepsBetween, linksBetween}
+use Rattle.steps.specs.Matrices.{linked, numberOf, stepsBetween, linksBetween}
 use Rattle.steps.proofs.Among.{steps-among, links-among, together-swap}
 use Rattle.steps.proofs.Records.{numbers-rise, record-once, record-of, reach-numbers, reach-records}
 use Rattle.steps.proofs.Together.{reach-swap, reach-together, reach-linked}
@@ -27,7 +27,7 @@ use Rattle.components.specs.Parts.{Symmetric}
 use Rattle.components.proofs.Roots.{Equivalence}
 use Rattle.components.proofs.Linked.{upto-below, upto-memb, reached-parts}
 use Rattle.components.proofs.Members.{chosen-passes, chosen-has, chosen-ascends, getD-map, class-some, class-only, class-joined, class-whole}
-use Rattle.strong.specs.Strong.{shared, latestFirst}
+use Rattle.strong.specs.Strong.{latestFirst}
 use Rattle.strong.proofs.Shared.{shared-both, shared-forth, shared-back, shared-parts}
 use Rattle.strong.proofs.Latest.{latest-below, latest-all}
 use Rattle.structural.specs.Components.{Linked, Mutual, Components, connected, connectedComponents, strongComponents}

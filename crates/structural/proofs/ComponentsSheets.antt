@@ -1,11 +1,10 @@
 -- Sheets P4 and P5, computed over the definitions that the promises cite; and the connected components of the same table. Assumes nothing.
 use mathlib.Core.Path.{_≡_, refl}
-use mathlib.Core.List.{List, [], _∷_}
-use Prim.Native.Nat.{ℕ}
+use mathlib.Core.List.{[], _∷_}
 use Rattle.lists.specs.Tests.{_and_, every, chosen}
 use Rattle.lists.specs.Lists.{any, filter, tab, flat, over}
 use Rattle.layout.specs.declared.Answer.the-variants.{Done, NoRoom}
-use Rattle.layout.specs.Content.{Table, position, positionFrom}
+use Rattle.layout.specs.Content.{position, positionFrom}
 use Rattle.layout.specs.Steps.{stepsOf, isStep, makesStep, hasStep}
 use Rattle.layout.specs.Answers.{result, listed}
 use Rattle.graph.specs.Bfs.{push, spread, run, bfs}
@@ -16,7 +15,7 @@ use Rattle.depth.specs.Finish.{start, sweep, finished}
 use Rattle.components.specs.Classes.{rooted, rootsFrom, classes}
 use Rattle.strong.specs.Strong.{shared, latestFirst}
 use Rattle.structural.specs.Components.{connected, connectedComponents, strongComponents, connectedResult, connectedComponentsResult, strongComponentsResult}
-use Rattle.structural.specs.Closure.{reachesOther, closureOf, closureResult}
+use Rattle.structural.specs.Closure.{reachesOther, closureOf}
 use Rattle.structural.proofs.SortingSheets.{G}
 
 -- P4: G closure is 0-1 0-2 0-3 1-2 3-2
