@@ -10,13 +10,17 @@ use lib.Seq.{take-suc, getD-take, length-take-le}
 use Rattle.lists.specs.Lists.{memb, Below}
 use Rattle.lists.proofs.Count.{pigeon}
 use Rattle.lists.proofs.Memb.{memb-getD, below-memb}
+use Rattle.lists.proofs.Cases.{on-same, clash}
+use Rattle.steps.specs.Matrices.{turned}
+use Rattle.steps.proofs.Any.{any-at, any-of}
 use Rattle.depth.specs.Finish.{finished}
 use Rattle.depth.specs.Swept.{Finishes}
 use Rattle.depth.proofs.Finish.{finished-once, finished-below, finished-all}
 use Rattle.components.specs.Classes.{rootsOf}
 use Rattle.components.specs.Parts.{Tried, Parting, Partition}
-use Rattle.components.proofs.Parts.{parting-first, parting-room, parting-more, parting-end}
+use Rattle.components.proofs.Parts.{parted-out, parted-in, parting-first, parting-room, parting-more, parting-end}
 use Rattle.strong.specs.Strong.{shared, latestFirst}
+use Rattle.strong.specs.State.{Unparted}
 use Rattle.strong.proofs.Shared.{shared-parts}
 
 -- ---- a list turned round
@@ -44,6 +48,18 @@ memb-reverse v a e = go a [] (rw e refl)
     go : (x y : List ℕ) → (memb v x || memb v y) ≡ true → memb v (reverseAux x y) ≡ true
     go [] y p = p
     go (i ∷ x) y p = go x (i ∷ y) (swap (eqb v i) (memb v x) (memb v y) p)
+
+-- ---- while roots are tried, what is shared with a number in no class is in no class
+
+pub parting-free : (E : ℕ → ℕ → Bool) {n : ℕ} {whole rest ids : List ℕ} {c : ℕ} → Parting (shared E n) n whole rest ids c → Unparted E n ids
+parting-free E {n} {whole} {rest} {ids} h x y lx ly e z =
+    on-same (getD ids y 0) 0 (λ s. s)
+    (λ f.
+    let g = h .parted in
+    let k = any-at (turned (shared E n) y) (h .roots) 0 (parted-in g y ly f) in
+    let r : ℕ = getD (h .roots) (k .0) 0 in
+    let lr : r < n = below-memb n (h .roots) (g .below) r (memb-getD (h .roots) (k .0) (k .1)) in
+    clash (any-of (turned (shared E n) x) (h .roots) 0 (k .0) (k .1) (shared-parts E n .meet r x y lr lx ly (k .2) e)) (parted-out g x lx z))
 
 -- ---- the order
 

@@ -1,3 +1,4 @@
 pub mod Shared
+pub mod Inside
 pub mod Latest
 pub mod Ext

@@ -1,24 +1,17 @@
 -- What is reached and reaches: a relation whose classes part the numbers, found by two searches. Assumes nothing.
-use mathlib.Core.Path.{_≡_, sym, ap, ap₂, _∙_}
+use mathlib.Core.Path.{_≡_, sym, _∙_}
 use mathlib.Core.Bool.{Bool, true}
-use mathlib.Core.List.{List}
 use Prim.Native.Nat.{ℕ, _<_}
-use lib.Dec.{eqb}
-use lib.ListN.{getD}
-use borrow.Author.Tests.{eq-eqb}
 use Rattle.lists.specs.Tests.{_and_}
-use Rattle.lists.proofs.Cases.{on, clash, and-left, and-right, and-both, test-ext}
-use Rattle.lists.proofs.Count.{bit-one}
+use Rattle.lists.proofs.Cases.{and-left, and-right, and-both}
 use Rattle.walks.specs.Walks.{Reach, here, step}
 use Rattle.walks.proofs.Walks.{reach-trans}
 use Rattle.graph.specs.Reach.{Edge}
-use Rattle.graph.specs.Post.{Reached}
 use Rattle.graph.proofs.Bfs.{bfs-sound, bfs-complete}
 use Rattle.components.specs.Classes.{reached}
-use Rattle.components.specs.Parts.{flagged}
 use Rattle.components.proofs.Roots.{Equivalence}
 use Rattle.strong.specs.Strong.{shared}
-use Rattle.strong.specs.State.{Turned, Common}
+use Rattle.strong.specs.State.{Turned}
 
 pub shared-both : (E : ℕ → ℕ → Bool) (n x y : ℕ) → reached E n x y ≡ true → reached E n y x ≡ true → shared E n x y ≡ true
 unfolding shared
@@ -44,34 +37,13 @@ shared-parts E n = record {
       (reached-trans E n b v a lb lv (shared-forth E n b v q) (shared-back E n a v p));
 }
 
--- marks of what is reached from r
-flags-of : (E : ℕ → ℕ → Bool) (n r : ℕ) (m : List ℕ) → r < n → Reached E n r m → (v : ℕ) → v < n → flagged m v ≡ reached E n r v
-flags-of E n r m lr h v l =
-    on (reached E n r v)
-    (λ e. eq-eqb (getD m v 0) 1 (h .yes v l (bfs-sound E n r lr v e)) ∙ sym e)
-    (λ e. ap (λ (i : ℕ). eqb i 1) (h .no v l (λ w. clash (bfs-complete E n r lr v w) e)) ∙ sym e)
-
 -- ---- by turned steps: F is E turned
 
 module _ (E F : ℕ → ℕ → Bool) (n : ℕ) (t : Turned E F n) where
-  reach-forth : {x y : ℕ} → Reach (Edge F n) x y → Reach (Edge E n) y x
+  pub reach-forth : {x y : ℕ} → Reach (Edge F n) x y → Reach (Edge E n) y x
   reach-forth here = here
   reach-forth (step {y = u} {z = v} a r) = reach-trans (step here (r .1, r .0, sym (t u v (r .0) (r .1)) ∙ r .2)) (reach-forth a)
 
-  reach-back : {x y : ℕ} → Reach (Edge E n) x y → Reach (Edge F n) y x
+  pub reach-back : {x y : ℕ} → Reach (Edge E n) x y → Reach (Edge F n) y x
   reach-back here = here
   reach-back (step {y = u} {z = v} a r) = reach-trans (step here (r .1, r .0, t v u (r .1) (r .0) ∙ r .2)) (reach-back a)
-
-  turned-reached : (r v : ℕ) → r < n → v < n → reached F n r v ≡ reached E n v r
-  turned-reached r v lr lv =
-      test-ext (reached F n r v) (reached E n v r)
-      (λ e. bfs-complete E n v lv r (reach-forth (bfs-sound F n r lr v e)))
-      (λ e. bfs-complete F n r lr v (reach-back (bfs-sound E n v lv r e)))
-
-  -- from marks a of what is reached, and b of what is reached by turned steps
-  pub common-shared : (r : ℕ) → r < n → (a b m : List ℕ) → Reached E n r a → Reached F n r b
-      → Common n a b m → (v : ℕ) → v < n → flagged m v ≡ shared E n r v
-  unfolding shared
-  common-shared r lr a b m ha hb h v l =
-      ap (λ (i : ℕ). eqb i 1) (h v l) ∙ bit-one (flagged a v and flagged b v)
-      ∙ ap₂ (λ (p q : Bool). p and q) (flags-of E n r a lr ha v l) (flags-of F n r b lr hb v l ∙ turned-reached r v lr l)

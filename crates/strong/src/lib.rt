@@ -1,37 +1,115 @@
 // The strong components of a matrix of steps: each record's class, by roots of which the latest finished comes first.
 ghost use mathlib.Core.Path.{_≡_};
+ghost use mathlib.Core.List.{[]};
 ghost use Prim.Native.Nat.{_<_, _≤_};
-ghost use lib.Dec.{eqb};
-ghost use lib.ListN.{length};
-ghost use Rattle.lists.specs.Tests.{bit, _and_};
+ghost use lib.ListN.{length, take};
 ghost use Rattle.layout.specs.Layout.{vertexLimit};
 ghost use Rattle.graph.specs.Reach.{matrix};
-ghost use Rattle.components.specs.Parts.{Tried, Partition};
+ghost use Rattle.graph.specs.Bfs.{push, spread, bfs};
+ghost use Rattle.graph.specs.Held.{Held, Marks};
+ghost use Rattle.components.specs.Parts.{flagged, Tried, Partition};
 ghost use Rattle.strong.specs.Strong.{shared, latestFirst};
-ghost use Rattle.strong.specs.State.{Turned, Common};
+ghost use Rattle.strong.specs.State.{inside, Turned, Opened, Unparted};
 
-fn both(a: u8, b: u8) -> u8
-    ensures { λ r. ⌜ r ≡ bit (eqb a 1 and eqb b 1) ⌝ }
-{
-    if a != 1 {
-        return 0;
-    }
-    if b == 1 { 1 } else { 0 }
-}
-
-// A mark stays where there are two.
-fn keep_common(n: usize, marks: &mut [u8; 256], other: &[u8; 256])
-    requires { ⌜ (n ≤ vertexLimit) × (length (now marks) ≡ vertexLimit) ⌝ }
-    ensures { λ _. ⌜ Common n (now (marks .entry)) (now (other .entry)) (now (marks .exit)) ⌝ }
+// The records that are in no class.
+fn free_records(ids: &[u32; 256], n: usize, free: &mut [u8; 256])
+    requires { ⌜ (n ≤ vertexLimit) × (length (now free) ≡ vertexLimit) ⌝ }
+    ensures { λ _. ⌜ Opened n (now (ids .entry)) (now (free .exit)) ⌝ }
 {
     let mut v = 0;
     while v < n {
-        marks[v] = both(marks[v], other[v]);
+        free[v] = (ids[v] == 0) as u8;
         v += 1;
     }
 }
 
-// Where r is in no class, what is reached from it and reaches it becomes the next one. `back` has the turned steps.
+// j joins the queue where there is a step to it from x, it is free, and it is not in the queue.
+fn touch(
+    adj: &[u8; 65536],
+    free: &[u8; 256],
+    n: usize,
+    x: usize,
+    j: usize,
+    marks: &mut [u8; 256],
+    order: &mut [u32; 256],
+    tail: usize,
+) -> usize
+    requires { ⌜ (n ≤ 256) × (x < n) × (j < n) × Held n (now marks) (now order) tail (take tail (now order)) ⌝ }
+    ensures { λ r. ⌜ Held n (now (marks .exit)) (now (order .exit)) r (push (inside (matrix (now (adj .entry))) (flagged (now (free .entry)))) x (take tail (now (order .entry))) j) ⌝ }
+{
+    if adj[x * 256 + j] != 1 {
+        return tail;
+    }
+    if free[j] != 1 {
+        return tail;
+    }
+    if marks[j] != 0 {
+        return tail;
+    }
+    marks[j] = 1;
+    order[tail] = j as u32;
+    tail + 1
+}
+
+// Every free number to which there is a step from x joins the queue.
+fn expand(
+    adj: &[u8; 65536],
+    free: &[u8; 256],
+    n: usize,
+    x: usize,
+    marks: &mut [u8; 256],
+    order: &mut [u32; 256],
+    tail: usize,
+) -> usize
+    requires { ⌜ (n ≤ 256) × (x < n) × Held n (now marks) (now order) tail (take tail (now order)) ⌝ }
+    ensures { λ r. ⌜ Held n (now (marks .exit)) (now (order .exit)) r (spread (inside (matrix (now (adj .entry))) (flagged (now (free .entry)))) x n 0 (take tail (now (order .entry)))) ⌝ }
+{
+    let mut end = tail;
+    let mut j = 0;
+    while j < n {
+        end = touch(adj, free, n, x, j, marks, order, end);
+        j += 1;
+    }
+    end
+}
+
+// Breadth first from `start` over free records.
+fn serve(
+    adj: &[u8; 65536],
+    free: &[u8; 256],
+    n: usize,
+    start: usize,
+    marks: &mut [u8; 256],
+    order: &mut [u32; 256],
+) -> usize
+    requires { ⌜ (n ≤ 256) × (start < n) × Held n (now marks) (now order) 0 [] ⌝ }
+    ensures { λ r. ⌜ Held n (now (marks .exit)) (now (order .exit)) r (bfs (inside (matrix (now (adj .entry))) (flagged (now (free .entry)))) n start) ⌝ }
+{
+    marks[start] = 1;
+    order[0] = start as u32;
+    let mut tail = 1;
+    let mut head = 0;
+    while head < tail {
+        let x = order[head] as usize;
+        tail = expand(adj, free, n, x, marks, order, tail);
+        head += 1;
+    }
+    tail
+}
+
+// Marks what is reached from `start` over free records.
+fn reach_within(adj: &[u8; 65536], free: &[u8; 256], n: usize, start: usize, marks: &mut [u8; 256])
+    requires { ⌜ (n ≤ 256) × (start < n) ⌝ }
+    ensures { λ _. ⌜ Marks n (now (marks .exit)) (bfs (inside (matrix (now (adj .entry))) (flagged (now (free .entry)))) n start) ⌝ }
+{
+    let mut seen = [0u8; 256];
+    let mut order = [0u32; 256];
+    serve(adj, free, n, start, &mut seen, &mut order);
+    *marks = seen;
+}
+
+// Where r is in no class, what is reached from it and reaches it becomes the next one: of the records in no class those that reach r,
+// and of these what r reaches. `back` has the turned steps.
 fn try_root(
     adj: &[u8; 65536],
     back: &[u8; 65536],
@@ -40,17 +118,18 @@ fn try_root(
     c: u32,
     ids: &mut [u32; 256],
 ) -> u32
-    requires { ⌜ (n ≤ vertexLimit) × (r < n) × (c < vertexLimit) × (length (now ids) ≡ vertexLimit) × Turned (matrix (now adj)) (matrix (now back)) n ⌝ }
+    requires { ⌜ (n ≤ vertexLimit) × (r < n) × (c < vertexLimit) × (length (now ids) ≡ vertexLimit) × Turned (matrix (now adj)) (matrix (now back)) n × Unparted (matrix (now adj)) n (now ids) ⌝ }
     ensures { λ x. ⌜ Tried (shared (matrix (now (adj .entry))) n) n r (now (ids .entry)) c (now (ids .exit)) x ⌝ }
 {
     if ids[r] != 0 {
         return c;
     }
+    let mut free = [0u8; 256];
+    free_records(ids, n, &mut free);
+    let mut reaching = [0u8; 256];
+    reach_within(back, &free, n, r, &mut reaching);
     let mut marks = [0u8; 256];
-    graph::reach_from(adj, n, r, &mut marks);
-    let mut other = [0u8; 256];
-    graph::reach_from(back, n, r, &mut other);
-    keep_common(n, &mut marks, &other);
+    reach_within(adj, &reaching, n, r, &mut marks);
     components::join(&marks, n, c + 1, ids);
     c + 1
 }

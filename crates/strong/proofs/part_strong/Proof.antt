@@ -8,7 +8,7 @@ use Rattle.graph.specs.Reach.{matrix}
 use Rattle.components.specs.Classes.{rootsOf}
 use Rattle.components.specs.Parts.{Parting}
 use Rattle.strong.specs.Strong.{shared, latestFirst}
-use Rattle.strong.proofs.Latest.{latest-first, latest-root, latest-room, latest-more, latest-end}
+use Rattle.strong.proofs.Latest.{latest-first, latest-root, latest-room, latest-more, parting-free, latest-end}
 use Rattle.strong.proofs.part_strong.Statement.{statement}
 use Rattle.strong.proofs.part_strong.Tie as tie
 
@@ -49,8 +49,14 @@ try-root-requires : tie.Need-try-root-requires Inv-loop μ-loop
 try-root-requires c κs =
     let i = c .before in
     let s = i .before .before .before .before in
-    let f = i .before .before .finish-order .ensures in
-    (s .pre .0, rooted i, latest-room (matrix (s .args .adj .now)) (s .args .n) (s .pre .0) f (i .before .loop .inv .1) (i .loop-test .taken) (i .before .loop .inv .0), i .before .loop .inv .1 .parted .wide, s .pre .1)
+    let f = i .before .before .finish-order .ensures in (
+      s .pre .0,
+      rooted i,
+      latest-room (matrix (s .args .adj .now)) (s .args .n) (s .pre .0) f (i .before .loop .inv .1) (i .loop-test .taken) (i .before .loop .inv .0),
+      i .before .loop .inv .1 .parted .wide,
+      s .pre .1,
+      parting-free (matrix (s .args .adj .now)) (i .before .loop .inv .1),
+    )
 
 sub-k : tie.Need-sub-k Inv-loop μ-loop
 sub-k c = omega arith

@@ -1,7 +1,7 @@
 -- `strong::try_root` meets its contract. Assumes nothing.
 use Rattle.graph.specs.Reach.{matrix}
 use Rattle.components.proofs.Parts.{tried-old, tried-new}
-use Rattle.strong.proofs.Shared.{common-shared}
+use Rattle.strong.proofs.Inside.{class-shared}
 use borrow.Author.Needs.{needs}
 use Rattle.strong.proofs.try_root.Statement.{statement}
 use Rattle.strong.proofs.try_root.Tie as tie
@@ -15,14 +15,14 @@ element-copy-out-if1 c = search needs
 returns : tie.Need-returns
 returns c = tried-old (c .before .before .pre .3) (c .if1 .taken)
 
-reach-from-requires : tie.Need-reach-from-requires
-reach-from-requires c κs = search needs
+free-records-requires : tie.Need-free-records-requires
+free-records-requires c κs = search needs
 
-reach-from-requires-2 : tie.Need-reach-from-requires-2
-reach-from-requires-2 c κs = search needs
+reach-within-requires : tie.Need-reach-within-requires
+reach-within-requires c κs = search needs
 
-keep-common-requires : tie.Need-keep-common-requires
-keep-common-requires c κs = search needs
+reach-within-requires-2 : tie.Need-reach-within-requires-2
+reach-within-requires-2 c κs = search needs
 
 add-join : tie.Need-add-join
 add-join c = search needs
@@ -35,13 +35,14 @@ add-result c = search needs
 
 returns-2 : tie.Need-returns-2
 returns-2 c =
-    let a = c .before .before .before .before .before .before .before .before in
-    let b = c .before .before .before .before .before .before in
-    let k = c .before .before .before in
-    let s = a .before .before .before .before in
-    tried-new (k .keep-common .last .1 .0)
-    (common-shared (matrix (s .args .adj .now)) (matrix (s .args .back .now)) (s .args .n) (s .pre .4) (s .args .r) (s .pre .1) (a .reach-from .last .1 .1 .1 .0) (b .reach-from2 .last .1 .1 .1 .0) (k .keep-common .last .1 .0) (a .reach-from .ensures) (b .reach-from2 .ensures) (k .keep-common .ensures))
-    (a .before .before .if1 .left) (c .join .ensures)
+    let m = c .before .before .before in
+    let b = m .before .before .before in
+    let a = b .before .before .before in
+    let s = a .before .before .before .before .before in
+    tried-new (m .reach-within2 .last .1 .1 .1 .1 .0)
+    (class-shared (matrix (s .args .adj .now)) (matrix (s .args .back .now)) (s .args .n) (s .pre .4) (s .args .ids .now) (s .pre .5) (s .args .r) (s .pre .1) (a .before .before .before .if1 .left)
+    (a .free-records .last .1 .1 .0) (b .reach-within .last .1 .1 .1 .1 .0) (m .reach-within2 .last .1 .1 .1 .1 .0) (a .free-records .ensures) (b .reach-within .ensures) (m .reach-within2 .ensures))
+    (a .before .before .before .if1 .left) (c .join .ensures)
 
 pub try-root-spec : {M : Type 1} → statement M
 try-root-spec =
@@ -50,9 +51,9 @@ try-root-spec =
     mul-if1
     element-copy-out-if1
     returns
-    reach-from-requires
-    reach-from-requires-2
-    keep-common-requires
+    free-records-requires
+    reach-within-requires
+    reach-within-requires-2
     add-join
     join-requires
     add-result
