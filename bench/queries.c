@@ -80,7 +80,7 @@ int main(void) {
     QUERY("is_connected", 80000, timed_is_connected(full, WORDS));
     QUERY("connected_components", 80000, timed_connected_components(full, WORDS, out, ROOM));
     QUERY("strong components", 400000, timed_strongly_connected_components(full, WORDS, out, ROOM));
-    ANSWER_SLOW("strong components, 256", "full, dense, lists ascending", 0, 400000, timed_strongly_connected_components(ascending, WORDS, out, ROOM));
+    ANSWER("strong components, 256", "full, dense, lists ascending", 0, 400000, timed_strongly_connected_components(ascending, WORDS, out, ROOM));
     ANSWER("connected components, 256", "256 vertices, no hyperedge", 0, 80000, timed_connected_components(alone, WORDS, out, ROOM));
     ANSWER_SLOW("closure", "full, dense numbers", 0, 10000000, timed_get_transitive_closure(full, WORDS, out, ROOM));
     QUERY("write_frames", 200000, timed_write_frames(full, WORDS, text, sizeof text));

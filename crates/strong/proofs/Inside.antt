@@ -1,23 +1,24 @@
--- A search over open numbers; and the class of a root by two such searches. Assumes nothing.
-use mathlib.Core.Path.{_≡_, sym, ap, _∙_}
+-- A search over free numbers; and the class of a root by two such searches. Assumes nothing.
+use mathlib.Core.Path.{_≡_, refl, sym, ap, _∙_}
 use mathlib.Core.Bool.{Bool, true, false}
 use mathlib.Core.List.{List}
-use Prim.Native.Nat.{ℕ, suc, _+_, _-_, _≤_, _<_}
+use Prim.Native.Nat.{ℕ, zero, suc, _+_, _-_, _≤_, _<_}
 use native.Mathlib.Numerals.{add-one}
 use native.Mathlib.Omega.{arith}
 use lib.Dec.{eqb}
-use lib.ListN.{getD}
+use lib.ListN.{getD, take}
 use borrow.Author.Tests.{eq-eqb}
 use Rattle.lists.specs.Tests.{_and_, bit}
 use Rattle.lists.specs.Lists.{memb}
 use Rattle.lists.proofs.Cases.{on, test-ext, and-left, and-right, and-both, and-false-left, and-false-right}
-use Rattle.lists.proofs.Count.{bit-one}
+use Rattle.lists.proofs.Count.{bit-one, full}
 use Rattle.walks.specs.Walks.{Reach, here, step}
 use Rattle.walks.proofs.Walks.{reach-trans, reach-map}
 use Rattle.graph.specs.Reach.{Edge}
 use Rattle.graph.specs.Bfs.{push, spread, bfs}
 use Rattle.graph.specs.Held.{Held, Marks}
-use Rattle.graph.proofs.Bfs.{bfs-sound, bfs-complete}
+use Rattle.graph.proofs.Bfs.{push-old, bfs-sound, bfs-complete}
+use Rattle.graph.proofs.Held.{held-as}
 use Rattle.components.specs.Parts.{flagged}
 use Rattle.components.proofs.Parts.{flags-reached}
 use Rattle.strong.specs.Strong.{shared}
@@ -41,6 +42,16 @@ module _ (E : ℕ → ℕ → Bool) where
   spread-end n x j q l =
       let e : n - j ≡ 0 = omega arith in
       rw e
+
+  -- where every number is in the queue, none joins it
+  spread-none : (n x : ℕ) (q : List ℕ) → ((z : ℕ) → z < n → memb z q ≡ true) → (m j : ℕ) → j + m ≤ n → spread E x m j q ≡ q
+  unfolding spread
+  spread-none n x q h zero j l = refl
+  spread-none n x q h (suc m) j l = rw (push-old E x q j (h j (omega arith))) (spread-none n x q h m (suc j) (omega arith))
+
+  pub held-full : {n : ℕ} {m o : List ℕ} {t : ℕ} (x : ℕ) → Held n m o t (take t o) → t ≡ n → Held n m o t (spread E x n 0 (take t o))
+  held-full {n} {m} {o} {t} x h e =
+      held-as h (spread-none n x (take t o) (λ z l. full (take t o) n (h .once) (h .below) (omega (arith, h .count)) z l) n 0 (omega arith))
 
 module _ (E : ℕ → ℕ → Bool) (p : ℕ → Bool) (x y : ℕ) where
   pub inside-no-step : E x y ≡ false → inside E p x y ≡ false

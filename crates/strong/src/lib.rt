@@ -51,7 +51,7 @@ fn touch(
     tail + 1
 }
 
-// Every free number to which there is a step from x joins the queue.
+// Every free number to which there is a step from x joins the queue. Where all are in it, none does.
 fn expand(
     adj: &[u8; 65536],
     free: &[u8; 256],
@@ -64,6 +64,9 @@ fn expand(
     requires { ⌜ (n ≤ 256) × (x < n) × Held n (now marks) (now order) tail (take tail (now order)) ⌝ }
     ensures { λ r. ⌜ Held n (now (marks .exit)) (now (order .exit)) r (spread (inside (matrix (now (adj .entry))) (flagged (now (free .entry)))) x n 0 (take tail (now (order .entry)))) ⌝ }
 {
+    if tail == n {
+        return tail;
+    }
     let mut end = tail;
     let mut j = 0;
     while j < n {

@@ -2,7 +2,7 @@
 -- Assumes nothing.
 use Rattle.components.specs.Parts.{flagged}
 use Rattle.strong.specs.State.{inside}
-use Rattle.strong.proofs.Inside.{spread-step, spread-end}
+use Rattle.strong.proofs.Inside.{spread-step, spread-end, held-full}
 use Rattle.graph.proofs.Held.{held-as}
 use Rattle.graph.specs.Bfs.{spread}
 use Rattle.graph.specs.Held.{Held}
@@ -23,8 +23,13 @@ Inv-loop adj free n x marks₀ order₀ tail end₀ j₀ marks order end j =
 abbrev μ-loop : tie.MeasureT-loop
 μ-loop adj free n x marks₀ order₀ tail end₀ j₀ marks order end j = n - j
 
+returns : tie.Need-returns Inv-loop μ-loop
+returns c =
+    let s = c .before in
+    held-full (inside (matrix (s .args .adj .now)) (flagged (s .args .free .now))) (s .args .x) (s .pre .2) (c .if1 .taken)
+
 loop-holds : tie.Need-loop-holds Inv-loop μ-loop
-loop-holds c = (omega arith, c .pre .2, rw sub-zero)
+loop-holds c = (omega arith, c .before .pre .2, rw sub-zero)
 
 touch-requires : tie.Need-touch-requires Inv-loop μ-loop
 touch-requires c κs = (omega arith, omega arith, omega arith, c .before .before .before .loop .inv .1)
@@ -43,12 +48,12 @@ loop-again c =
       ap (spread _ _ _ _) (c .touch .ensures .queue) ∙ sym (spread-step _ _ _ _ _ (c .before .before .before .loop-test .taken)) ∙ l .loop .inv .2,
     )
 
-returns : tie.Need-returns Inv-loop μ-loop
-returns c =
+returns-2 : tie.Need-returns-2 Inv-loop μ-loop
+returns-2 c =
     let at = c .before .loop .inv in
     held-as (at .1) (sym (at .2) ∙ spread-end _ _ _ _ _ (c .loop-test .left))
 
 pub expand-spec : {M : Type 1} → statement M
 expand-spec =
     tie.close
-    (tie.spec Inv-loop μ-loop loop-holds touch-requires add-j loop-less loop-again returns)
+    (tie.spec Inv-loop μ-loop returns loop-holds touch-requires add-j loop-less loop-again returns-2)
