@@ -1,75 +1,138 @@
+// The classes of a relation among records: each record's class, and the listing of the classes by number.
 ghost use mathlib.Core.Path.{_≡_};
-ghost use Prim.Native.Nat.{ℕ, suc, _+_, _<_, _≤_};
+ghost use mathlib.Core.Bool.{cond};
+ghost use mathlib.Core.List.{map};
+ghost use Prim.Native.Nat.{suc, _<_, _≤_};
 ghost use lib.Dec.{eqb};
-ghost use mathlib.Core.Bool.{true};
-ghost use lib.ListN.{length, getD};
-ghost use Rattle.lists.specs.Tests.{count, bit};
+ghost use lib.ListN.{length};
+ghost use Rattle.lists.specs.Tests.{count, chosen};
 ghost use Rattle.lists.specs.Lists.{over};
-ghost use Rattle.lists.specs.Tests.{chosen};
+ghost use Rattle.layout.specs.Layout.{limit, vertexLimit, vertexCount, read};
+ghost use Rattle.layout.specs.WellFormed.{Formed};
+ghost use Rattle.layout.specs.Answers.{result, listed};
 ghost use Rattle.graph.specs.Reach.{matrix};
-ghost use Rattle.components.specs.Rows.{marked, words, rows, Put};
+ghost use Rattle.steps.specs.Matrices.{numberOf};
+ghost use Rattle.components.specs.Classes.{reached, upTo, counted};
+ghost use Rattle.components.specs.Parts.{flagged, inClass, Joined, Tried, Partition, Symmetric, Filled, Written, partWords};
+use layout::Answer;
 
-fn one_more(d: u32, mark: u8) -> u32
-    requires { ⌜ d ≤ 256 ⌝ }
-    ensures { λ r. ⌜ r ≡ bit (eqb mark 1) + d ⌝ }
+fn either(was: u32, mark: u8, k: u32) -> u32
+    ensures { λ r. ⌜ r ≡ cond (eqb mark 1) k was ⌝ }
 {
-    if mark == 1 { d + 1 } else { d }
+    if mark == 1 { k } else { was }
 }
 
-// How many numbers have a mark.
-fn tally(marks: &[u8; 256], n: usize) -> u32
-    requires { ⌜ n ≤ 256 ⌝ }
-    ensures { λ r. ⌜ r ≡ count (marked (now (marks .entry))) n ⌝ }
+// Every marked record joins class k.
+pub fn join(marks: &[u8; 256], n: usize, k: u32, ids: &mut [u32; 256])
+    requires { ⌜ (n ≤ vertexLimit) × (length (now ids) ≡ vertexLimit) ⌝ }
+    ensures { λ _. ⌜ Joined (flagged (now (marks .entry))) n k (now (ids .entry)) (now (ids .exit)) ⌝ }
 {
-    let mut d: u32 = 0;
-    let mut u = 0;
-    while u < n {
-        d = one_more(d, marks[u]);
-        u += 1;
+    let mut v = 0;
+    while v < n {
+        ids[v] = either(ids[v], marks[v], k);
+        v += 1;
     }
-    d
 }
 
-// j is written at i, where it has a mark.
-fn put(mark: u8, j: usize, part: &mut [u32], i: usize) -> usize
-    requires { ⌜ (j < 256) × (eqb mark 1 ≡ true → i < length (now part)) ⌝ }
-    ensures { λ r. ⌜ Put (eqb mark 1) j (now (part .entry)) i (now (part .exit)) r ⌝ }
+// Where r is in no class, what is reached from it becomes the next one.
+fn try_root(adj: &[u8; 65536], n: usize, r: usize, c: u32, ids: &mut [u32; 256]) -> u32
+    requires { ⌜ (n ≤ vertexLimit) × (r < n) × (c < vertexLimit) × (length (now ids) ≡ vertexLimit) ⌝ }
+    ensures { λ x. ⌜ Tried (reached (matrix (now (adj .entry))) n) n r (now (ids .entry)) c (now (ids .exit)) x ⌝ }
 {
-    if mark != 1 {
-        return i;
+    if ids[r] != 0 {
+        return c;
     }
-    part[i] = j as u32;
-    i + 1
-}
-
-// The numbers that have a mark, as a count and a list, from the front of a part of the answer.
-pub fn list_into(marks: &[u8; 256], n: usize, part: &mut [u32]) -> usize
-    requires { ⌜ (n ≤ 256) × (suc (count (marked (now marks)) n) ≤ length (now part)) ⌝ }
-    ensures { λ r. ⌜ (now (part .exit) ≡ over (words (chosen (marked (now (marks .entry))) n)) (now (part .entry))) × (r ≡ length (words (chosen (marked (now (marks .entry))) n))) ⌝ }
-{
-    let k = tally(marks, n);
-    part[0] = k;
-    let mut i = 1;
-    let mut j = 0;
-    while j < n {
-        i = put(marks[j], j, part, i);
-        j += 1;
-    }
-    i
-}
-
-// For each number what is reached from it, each list in the part of the answer after the one before.
-pub fn reach_rows(adj: &[u8; 65536], n: usize, answer: &mut [u32]) -> usize
-    requires { ⌜ (n ≤ 256) × (length (rows (matrix (now adj)) n) ≤ length (now answer)) ⌝ }
-    ensures { λ r. ⌜ (now (answer .exit) ≡ over (rows (matrix (now (adj .entry))) n) (now (answer .entry))) × (r ≡ length (rows (matrix (now (adj .entry))) n)) ⌝ }
-{
     let mut marks = [0u8; 256];
-    let mut at = 0;
-    let mut x = 0;
-    while x < n {
-        graph::marks_from(adj, n, x, &mut marks);
-        at += list_into(&marks, n, &mut answer[at..]);
-        x += 1;
+    graph::marks_from(adj, n, r, &mut marks);
+    join(&marks, n, c + 1, ids);
+    c + 1
+}
+
+// The classes of what is reached, where steps lead both ways: roots ascend. Answers how many there are.
+pub fn part_linked(adj: &[u8; 65536], n: usize, ids: &mut [u32; 256]) -> u32
+    requires { ⌜ (n ≤ vertexLimit) × Symmetric (matrix (now adj)) n ⌝ }
+    ensures { λ c. ⌜ Partition (reached (matrix (now (adj .entry))) n) n (upTo n) (now (ids .exit)) c ⌝ }
+{
+    let blank = [0u32; 256];
+    *ids = blank;
+    let mut c = 0;
+    let mut r = 0;
+    while r < n {
+        c = try_root(adj, n, r, c, ids);
+        r += 1;
     }
-    at
+    c
+}
+
+// How many records are in class k.
+fn class_size(ids: &[u32; 256], n: usize, k: u32) -> u32
+    requires { ⌜ n ≤ vertexLimit ⌝ }
+    ensures { λ r. ⌜ r ≡ count (inClass (now (ids .entry)) k) n ⌝ }
+{
+    let mut c = 0;
+    let mut v = 0;
+    while v < n {
+        if ids[v] == k {
+            c += 1;
+        }
+        v += 1;
+    }
+    c
+}
+
+// Writes the numbers of the records in class k from the front of a part of the answer.
+fn write_members(t: &[u32], ids: &[u32; 256], n: usize, k: u32, part: &mut [u32])
+    requires { ⌜ Formed limit (now t) ⌝ }
+    requires { ⌜ (n ≡ vertexCount (now t)) × (count (inClass (now ids) k) n ≤ length (now part)) ⌝ }
+    ensures { λ _. ⌜ now (part .exit) ≡ over (map (numberOf (read limit (now (t .entry)))) (chosen (inClass (now (ids .entry)) k) n)) (now (part .entry)) ⌝ }
+{
+    let mut c = 0;
+    let mut v = 0;
+    while v < n {
+        if ids[v] == k {
+            part[c] = layout::vertex_number(t, v);
+            c += 1;
+        }
+        v += 1;
+    }
+}
+
+// Class k, as its length and its members, from the front of a part of the answer.
+fn write_class(t: &[u32], ids: &[u32; 256], n: usize, k: u32, part: &mut [u32]) -> usize
+    requires { ⌜ Formed limit (now t) ⌝ }
+    requires { ⌜ (n ≡ vertexCount (now t)) × (suc (count (inClass (now ids) k) n) ≤ length (now part)) ⌝ }
+    ensures { λ r. ⌜ Written (counted (map (numberOf (read limit (now (t .entry)))) (chosen (inClass (now (ids .entry)) k) n))) (now (part .entry)) (now (part .exit)) r ⌝ }
+{
+    let size = class_size(ids, n, k);
+    part[0] = size;
+    write_members(t, ids, n, k, &mut part[1..]);
+    size as usize + 1
+}
+
+// Classes 1 to c, each in the part of the answer after the one before.
+fn write_classes(t: &[u32], ids: &[u32; 256], n: usize, c: u32, out: &mut [u32])
+    requires { ⌜ Formed limit (now t) ⌝ }
+    requires { ⌜ (n ≡ vertexCount (now t)) × (length (partWords (numberOf (read limit (now t))) (now ids) n c) ≤ length (now out)) ⌝ }
+    ensures { λ _. ⌜ now (out .exit) ≡ over (partWords (numberOf (read limit (now (t .entry)))) (now (ids .entry)) n c) (now (out .entry)) ⌝ }
+{
+    let mut at = 0;
+    let mut k = 0;
+    while k < c {
+        at += write_class(t, ids, n, k + 1, &mut out[at..]);
+        k += 1;
+    }
+}
+
+// Lists the c classes. Each record is in one, so the words are a length for each class and every record's number.
+pub fn list_classes(t: &[u32], ids: &[u32; 256], n: usize, c: u32, out: &mut [u32]) -> Answer
+    requires { ⌜ Formed limit (now t) ⌝ }
+    requires { ⌜ (n ≡ vertexCount (now t)) × Filled n c (now ids) ⌝ }
+    ensures { λ r. ⌜ result r (now (out .exit)) ≡ listed (partWords (numberOf (read limit (now (t .entry)))) (now (ids .entry)) n c) (now (out .entry)) ⌝ }
+{
+    let need = n + c as usize;
+    if out.len() < need {
+        return Answer::NoRoom(need);
+    }
+    write_classes(t, ids, n, c, out);
+    Answer::Done(need)
 }

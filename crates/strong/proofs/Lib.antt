@@ -1,2 +1,4 @@
-pub mod Mutual
-pub mod State
+pub mod Shared
+pub mod Inside
+pub mod Latest
+pub mod Ext

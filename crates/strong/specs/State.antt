@@ -1,21 +1,25 @@
--- What the code of the strong components holds. Assumes nothing.
+-- What the code of the strong components works on. Assumes nothing.
 use mathlib.Core.Path.{_≡_}
-use mathlib.Core.Bool.{Bool}
+use mathlib.Core.Bool.{Bool, true}
 use mathlib.Core.List.{List}
-use Prim.Native.Nat.{ℕ, _+_, _*_, _<_}
-use lib.ListN.{length, getD}
-use mathlib.Core.List
-use Rattle.graph.specs.Bfs.{bfs}
-use Rattle.lists.specs.Lists.{memb}
-use Rattle.lists.specs.Tests.{bit}
+use Prim.Native.Nat.{ℕ, _<_}
+use lib.Dec.{eqb}
+use lib.ListN.{getD}
+use Rattle.lists.specs.Tests.{bit, _and_}
+use Rattle.strong.specs.Strong.{shared}
 
--- the first v entries of row x are the marks, and nothing else is changed
-pub record Copied (x v : ℕ) (marks c₀ c : List ℕ) : Type 0 where
-  pub long : length c ≡ 65536
-  pub row : (i : ℕ) → i < v → getD c (x * 256 + i) 0 ≡ getD marks i 0
-  pub above : (i : ℕ) → i < x * 256 → getD c i 0 ≡ getD c₀ i 0
+-- F has the steps of E turned
+abbrev pub Turned : (ℕ → ℕ → Bool) → (ℕ → ℕ → Bool) → ℕ → Type 0
+Turned E F n = (i j : ℕ) → i < n → j < n → F i j ≡ E j i
 
--- what is reached from the numbers below x
-pub record Closure (E : ℕ → ℕ → Bool) (n x : ℕ) (c : List ℕ) : Type 0 where
-  pub long : length c ≡ 65536
-  pub is : (u v : ℕ) → u < x → v < n → getD c (u * 256 + v) 0 ≡ bit (memb v (bfs E n u))
+-- a step to a number that passes the test
+unfoldable pub inside : (ℕ → ℕ → Bool) → (ℕ → Bool) → ℕ → ℕ → Bool
+inside E p x y = E x y and p y
+
+-- m marks what is in no class
+abbrev pub Opened : ℕ → List ℕ → List ℕ → Type 0
+Opened n ids m = (v : ℕ) → v < n → getD m v 0 ≡ bit (eqb (getD ids v 0) 0)
+
+-- what is shared with a number in no class is in no class
+abbrev pub Unparted : (ℕ → ℕ → Bool) → ℕ → List ℕ → Type 0
+Unparted E n ids = (a b : ℕ) → a < n → b < n → shared E n a b ≡ true → getD ids a 0 ≡ 0 → getD ids b 0 ≡ 0

@@ -1,119 +1,157 @@
+// The strong components of a matrix of steps: each record's class, by roots of which the latest finished comes first.
 ghost use mathlib.Core.Path.{_≡_};
-ghost use mathlib.Core.Bool.{cond, _&&_};
-ghost use mathlib.Core.List.{_++_};
-ghost use Prim.Native.Nat.{ℕ, suc, _+_, _<_, _≤_};
-ghost use lib.Dec.{eqb};
-ghost use lib.ListN.{length, getD, take, drop};
-ghost use Rattle.lists.specs.Tests.{count, bit};
-ghost use Rattle.lists.specs.Lists.{over};
+ghost use mathlib.Core.List.{[]};
+ghost use Prim.Native.Nat.{_<_, _≤_};
+ghost use lib.ListN.{length, take};
+ghost use Rattle.layout.specs.Layout.{vertexLimit};
 ghost use Rattle.graph.specs.Reach.{matrix};
-ghost use Rattle.components.specs.Rows.{marked, words};
-ghost use Rattle.strong.specs.Strong.{class, by, Root, strong};
-ghost use Rattle.strong.specs.State.{Copied, Closure};
+ghost use Rattle.graph.specs.Bfs.{push, spread, bfs};
+ghost use Rattle.graph.specs.Held.{Held, Marks};
+ghost use Rattle.components.specs.Parts.{flagged, Tried, Partition};
+ghost use Rattle.strong.specs.Strong.{shared, latestFirst};
+ghost use Rattle.strong.specs.State.{inside, Turned, Opened, Unparted};
 
-// Row x of the matrix takes the marks.
-fn copy_row(c: &mut [u8; 65536], n: usize, x: usize, marks: &[u8; 256])
-    requires { ⌜ (n ≤ 256) × (x < 256) × (length (now c) ≡ 65536) ⌝ }
-    ensures { λ r. ⌜ Copied x n (now (marks .entry)) (now (c .entry)) (now (c .exit)) ⌝ }
+// The records that are in no class.
+fn free_records(ids: &[u32; 256], n: usize, free: &mut [u8; 256])
+    requires { ⌜ (n ≤ vertexLimit) × (length (now free) ≡ vertexLimit) ⌝ }
+    ensures { λ _. ⌜ Opened n (now (ids .entry)) (now (free .exit)) ⌝ }
 {
     let mut v = 0;
     while v < n {
-        c[x * 256 + v] = marks[v];
+        free[v] = (ids[v] == 0) as u8;
         v += 1;
     }
 }
 
-// What is reached from each number.
-pub fn closure(adj: &[u8; 65536], n: usize, c: &mut [u8; 65536])
-    requires { ⌜ (n ≤ 256) × (length (now c) ≡ 65536) ⌝ }
-    ensures { λ r. ⌜ Closure (matrix (now (adj .entry))) n n (now (c .exit)) ⌝ }
+// j joins the queue where there is a step to it from x, it is free, and it is not in the queue.
+fn touch(
+    adj: &[u8; 65536],
+    free: &[u8; 256],
+    n: usize,
+    x: usize,
+    j: usize,
+    marks: &mut [u8; 256],
+    order: &mut [u32; 256],
+    tail: usize,
+) -> usize
+    requires { ⌜ (n ≤ 256) × (x < n) × (j < n) × Held n (now marks) (now order) tail (take tail (now order)) ⌝ }
+    ensures { λ r. ⌜ Held n (now (marks .exit)) (now (order .exit)) r (push (inside (matrix (now (adj .entry))) (flagged (now (free .entry)))) x (take tail (now (order .entry))) j) ⌝ }
 {
-    let mut marks = [0u8; 256];
-    let mut x = 0;
-    while x < n {
-        graph::marks_from(adj, n, x, &mut marks);
-        copy_row(c, n, x, &marks);
-        x += 1;
+    if adj[x * 256 + j] != 1 {
+        return tail;
     }
-}
-
-fn both(a: u8, b: u8) -> u8
-    ensures { λ r. ⌜ r ≡ bit (eqb a 1 && eqb b 1) ⌝ }
-{
-    if a != 1 {
-        return 0;
+    if free[j] != 1 {
+        return tail;
     }
-    if b == 1 { 1 } else { 0 }
-}
-
-fn either(a: u8, b: u8) -> u8
-    ensures { λ r. ⌜ r ≡ cond (eqb b 1) 1 a ⌝ }
-{
-    if b == 1 { 1 } else { a }
-}
-
-// Marks each number that reaches r and is reached from it.
-fn mark_class(c: &[u8; 65536], n: usize, r: usize, marks: &mut [u8; 256])
-    requires { ⌜ (n ≤ 256) × (r < n) × (length (now marks) ≡ 256) ⌝ }
-    ensures { λ x. ⌜ ((v : ℕ) → v < n → getD (now (marks .exit)) v 0 ≡ bit (by (now (c .entry)) r v)) ⌝ }
-{
-    let mut v = 0;
-    while v < n {
-        marks[v] = both(c[r * 256 + v], c[v * 256 + r]);
-        v += 1;
+    if marks[j] != 0 {
+        return tail;
     }
+    marks[j] = 1;
+    order[tail] = j as u32;
+    tail + 1
 }
 
-// What has a mark in either.
-fn merge(n: usize, m: &mut [u8; 256], marks: &[u8; 256])
-    requires { ⌜ (n ≤ 256) × (length (now m) ≡ 256) ⌝ }
-    ensures { λ x. ⌜ (length (now (m .exit)) ≡ 256) × ((v : ℕ) → v < n → getD (now (m .exit)) v 0 ≡ cond (marked (now (marks .entry)) v) 1 (getD (now (m .entry)) v 0)) ⌝ }
+// Every free number to which there is a step from x joins the queue. Where all are in it, none does.
+fn expand(
+    adj: &[u8; 65536],
+    free: &[u8; 256],
+    n: usize,
+    x: usize,
+    marks: &mut [u8; 256],
+    order: &mut [u32; 256],
+    tail: usize,
+) -> usize
+    requires { ⌜ (n ≤ 256) × (x < n) × Held n (now marks) (now order) tail (take tail (now order)) ⌝ }
+    ensures { λ r. ⌜ Held n (now (marks .exit)) (now (order .exit)) r (spread (inside (matrix (now (adj .entry))) (flagged (now (free .entry)))) x n 0 (take tail (now (order .entry)))) ⌝ }
 {
-    let mut v = 0;
-    while v < n {
-        m[v] = either(m[v], marks[v]);
-        v += 1;
+    if tail == n {
+        return tail;
     }
+    let mut end = tail;
+    let mut j = 0;
+    while j < n {
+        end = touch(adj, free, n, x, j, marks, order, end);
+        j += 1;
+    }
+    end
 }
 
-// The class of r, where r has no mark, goes into the part of the answer from `at` on.
-fn root(
-    c: &[u8; 65536],
+// Breadth first from `start` over free records.
+fn serve(
+    adj: &[u8; 65536],
+    free: &[u8; 256],
+    n: usize,
+    start: usize,
+    marks: &mut [u8; 256],
+    order: &mut [u32; 256],
+) -> usize
+    requires { ⌜ (n ≤ 256) × (start < n) × Held n (now marks) (now order) 0 [] ⌝ }
+    ensures { λ r. ⌜ Held n (now (marks .exit)) (now (order .exit)) r (bfs (inside (matrix (now (adj .entry))) (flagged (now (free .entry)))) n start) ⌝ }
+{
+    marks[start] = 1;
+    order[0] = start as u32;
+    let mut tail = 1;
+    let mut head = 0;
+    while head < tail {
+        let x = order[head] as usize;
+        tail = expand(adj, free, n, x, marks, order, tail);
+        head += 1;
+    }
+    tail
+}
+
+// Marks what is reached from `start` over free records.
+fn reach_within(adj: &[u8; 65536], free: &[u8; 256], n: usize, start: usize, marks: &mut [u8; 256])
+    requires { ⌜ (n ≤ 256) × (start < n) ⌝ }
+    ensures { λ _. ⌜ Marks n (now (marks .exit)) (bfs (inside (matrix (now (adj .entry))) (flagged (now (free .entry)))) n start) ⌝ }
+{
+    let mut seen = [0u8; 256];
+    let mut order = [0u32; 256];
+    serve(adj, free, n, start, &mut seen, &mut order);
+    *marks = seen;
+}
+
+// Where r is in no class, what is reached from it and reaches it becomes the next one: of the records in no class those that reach r,
+// and of these what r reaches. `back` has the turned steps.
+fn try_root(
+    adj: &[u8; 65536],
+    back: &[u8; 65536],
     n: usize,
     r: usize,
-    m: &mut [u8; 256],
-    answer: &mut [u32],
-    at: usize,
-) -> usize
-    requires { ⌜ (n ≤ 256) × (r < n) × (length (now m) ≡ 256) × (at ≤ length (now answer)) × (getD (now m) r 0 ≡ 0 → at + length (words (class (by (now c)) n r)) ≤ length (now answer)) ⌝ }
-    ensures { λ x. ⌜ Root (by (now (c .entry))) n r (now (m .entry)) (now (answer .entry)) at (now (m .exit)) (now (answer .exit)) x ⌝ }
+    c: u32,
+    ids: &mut [u32; 256],
+) -> u32
+    requires { ⌜ (n ≤ vertexLimit) × (r < n) × (c < vertexLimit) × (length (now ids) ≡ vertexLimit) × Turned (matrix (now adj)) (matrix (now back)) n × Unparted (matrix (now adj)) n (now ids) ⌝ }
+    ensures { λ x. ⌜ Tried (shared (matrix (now (adj .entry))) n) n r (now (ids .entry)) c (now (ids .exit)) x ⌝ }
 {
-    if m[r] != 0 {
-        return at;
+    if ids[r] != 0 {
+        return c;
     }
+    let mut free = [0u8; 256];
+    free_records(ids, n, &mut free);
+    let mut reaching = [0u8; 256];
+    reach_within(back, &free, n, r, &mut reaching);
     let mut marks = [0u8; 256];
-    mark_class(c, n, r, &mut marks);
-    let k = components::list_into(&marks, n, &mut answer[at..]);
-    merge(n, m, &marks);
-    at + k
+    reach_within(adj, &reaching, n, r, &mut marks);
+    components::join(&marks, n, c + 1, ids);
+    c + 1
 }
 
-// The strong components, latest finished first, each in the part of the answer after the one before.
-pub fn strong(adj: &[u8; 65536], n: usize, answer: &mut [u32]) -> usize
-    requires { ⌜ (n ≤ 256) × (length (strong (matrix (now adj)) n) ≤ length (now answer)) ⌝ }
-    ensures { λ r. ⌜ (now (answer .exit) ≡ over (strong (matrix (now (adj .entry))) n) (now (answer .entry))) × (r ≡ length (strong (matrix (now (adj .entry))) n)) ⌝ }
+// The strong components. Answers how many there are.
+pub fn part_strong(adj: &[u8; 65536], back: &[u8; 65536], n: usize, ids: &mut [u32; 256]) -> u32
+    requires { ⌜ (n ≤ vertexLimit) × Turned (matrix (now adj)) (matrix (now back)) n ⌝ }
+    ensures { λ c. ⌜ Partition (shared (matrix (now (adj .entry))) n) n (latestFirst (matrix (now (adj .entry))) n) (now (ids .exit)) c ⌝ }
 {
-    let mut c = [0u8; 65536];
-    closure(adj, n, &mut c);
     let mut order = [0u32; 256];
     let t = depth::finish_order(adj, n, &mut order);
-    let mut m = [0u8; 256];
-    let mut at = 0;
+    let blank = [0u32; 256];
+    *ids = blank;
+    let mut c = 0;
     let mut k = t;
     while 0 < k {
         let r = order[k - 1] as usize;
-        at = root(&c, n, r, &mut m, answer, at);
+        c = try_root(adj, back, n, r, c, ids);
         k -= 1;
     }
-    at
+    c
 }

@@ -12,7 +12,7 @@ use Rattle.order.specs.Greedy.{avail, next, rest, greedy}
 use Rattle.structural.specs.Sort.{sortOf, acyclic, sortResult, acyclicResult}
 
 -- G: vertices 0 to 4; hyperedges 0: [0,1,2] weight 4, 1: [0,3] weight 1, 2: [3,2] weight 2
-abbrev G : Table
+abbrev pub G : Table
 G = record {
   nextVertex = 5;
   nextHyperedge = 3;

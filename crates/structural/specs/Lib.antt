@@ -1,2 +1,4 @@
 pub mod Sort
 pub mod Sorted
+pub mod Components
+pub mod Closure

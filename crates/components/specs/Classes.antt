@@ -1,0 +1,40 @@
+-- The classes of a relation among the numbers below n, one for each root. Assumes nothing.
+use mathlib.Core.Bool.{Bool, cond}
+use mathlib.Core.List.{List, [], _∷_, _++_, map}
+use Prim.Native.Nat.{ℕ}
+use lib.ListN.{length}
+use Rattle.lists.specs.Tests.{chosen}
+use Rattle.lists.specs.Lists.{memb, any, tab}
+use Rattle.graph.specs.Bfs.{bfs}
+use Rattle.steps.specs.Matrices.{turned}
+
+-- v is reached from r
+abbrev pub reached : (ℕ → ℕ → Bool) → ℕ → ℕ → ℕ → Bool
+reached E n r v = memb v (bfs E n r)
+
+-- the class of r, ascending
+abbrev pub class : (ℕ → ℕ → Bool) → ℕ → ℕ → List ℕ
+class P n r = chosen (P r) n
+
+-- r becomes a root where it is in the class of no root before it
+unfoldable pub rooted : (ℕ → ℕ → Bool) → List ℕ → ℕ → List ℕ
+rooted P roots r = cond (any (turned P r) roots) roots (roots ++ (r ∷ []))
+
+-- the roots after those of an order, each in turn
+unfoldable pub rootsFrom : (ℕ → ℕ → Bool) → List ℕ → List ℕ → List ℕ
+rootsFrom P roots [] = roots
+rootsFrom P roots (r ∷ rs) = rootsFrom P (rooted P roots r) rs
+
+abbrev pub rootsOf : (ℕ → ℕ → Bool) → List ℕ → List ℕ
+rootsOf P order = rootsFrom P [] order
+
+unfoldable pub classes : (ℕ → ℕ → Bool) → ℕ → List ℕ → List (List ℕ)
+classes P n order = map (class P n) (rootsOf P order)
+
+-- the numbers below n, ascending
+abbrev pub upTo : ℕ → List ℕ
+upTo n = tab (λ i. i) n
+
+-- a class as it is written: its length and its members
+abbrev pub counted : List ℕ → List ℕ
+counted c = length c ∷ c
