@@ -63,7 +63,7 @@ static inline void fill_ascending(uint32_t *t) {
 }
 
 /* The same vertices and no hyperedge. */
-static void fill_alone(uint32_t *t) {
+static inline void fill_alone(uint32_t *t) {
     fill_dense(t);
     t[3] = 0;
     memset(t + HYPEREDGES_AT, 0, (WORDS - HYPEREDGES_AT) * sizeof *t);

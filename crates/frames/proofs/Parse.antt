@@ -67,11 +67,11 @@ unfolding byteAt byteDigits
 digits-of-byte text p h =
     ⊎-elim
     (λ u. ⊎-elim
-      (λ v. ap₂ (λ (x y : ℕ). x ∷ y ∷ [])
-        (ap digit (high (u .0) (v .0)) ∙ u .1)
-        (ap digit (low (u .0) (v .0)) ∙ v .1))
-      (λ e. absurd (omega arith))
-      (value-cases (getD text (p + 1) 0)))
+    (λ v. ap₂ (λ (x y : ℕ). x ∷ y ∷ [])
+    (ap digit (high (u .0) (v .0)) ∙ u .1)
+    (ap digit (low (u .0) (v .0)) ∙ v .1))
+    (λ e. absurd (omega arith))
+    (value-cases (getD text (p + 1) 0)))
     (λ e. absurd (omega arith))
     (value-cases (getD text p 0))
   where
@@ -291,8 +291,7 @@ module _ (text : List ℕ) (p : ℕ) (fr : List ℕ) where
       let e : drop p text ≡ digits (sealed fr) ++ (lineEnd ++ rest) = stands-eq text p (digits (sealed fr) ++ lineEnd) st ∙ append-assoc (digits (sealed fr)) lineEnd rest in
       let len : length (sealed fr) ≡ suc (length fr) = length-append fr (check fr ∷ []) ∙ add-one (length fr) in
       let r = digits-bytes text (sealed fr) p (lineEnd ++ rest) (all-snoc-of (isBelow byteValues) fr (check fr) low (lt-ltb (check fr) byteValues (check-low fr))) e in
-      let b : drop (p + suc (length fr) * 2) text ≡ 10 ∷ rest = ap (λ (n : ℕ). drop (p + n * 2) text) (sym len) ∙ r .1 in
-      (
+      let b : drop (p + suc (length fr) * 2) text ≡ 10 ∷ rest = ap (λ (n : ℕ). drop (p + n * 2) text) (sym len) ∙ r .1 in (
         ap (bytesAt text p) (sym len) ∙ r .0,
         front text (p + suc (length fr) * 2) 10 rest b .0,
         omega (arith, ap length b, length-drop (p + suc (length fr) * 2) text),

@@ -1,13 +1,20 @@
 // The C interface: each function calls the entry point of its name and gives its answer as number and detail.
 ghost use mathlib.Core.Path.{_≡_};
 ghost use mathlib.Core.List.{[]};
-ghost use mathlib.Core.Bool.{true, false};
+ghost use mathlib.Core.Bool.{false, true};
 ghost use Rattle.layout.specs.Answers.{onFormed};
 ghost use Rattle.edits.specs.Results.{addVertexResult, addHyperedgeResult, updateResult, removeVertexResult, removeHyperedgeResult, clearResult, emptyResult};
 ghost use Rattle.vaultsorrel.specs.Replies.{replied};
-ghost use Rattle.lookups.specs.Results.{relatedResult, degreeResult, connectingResult, weighingResult, fullHyperedgesResult, containsResult, vertexIndexResult};
+ghost use Rattle.lookups.specs.Results.{relatedResult, fullAdjacentResult, degreeResult, connectingResult, intersectionsResult, weighingResult, fullHyperedgesResult, containsResult, vertexIndexResult};
 ghost use Rattle.lookups.specs.declared.Relation.the-variants.{From, To, Around};
-ghost use Rattle.traversal.specs.Traversal.{bfsResult, reachableResult};
+ghost use Rattle.traversal.specs.Traversal.{traversalResult, reachableResult};
+ghost use Rattle.traversal.specs.declared.Order.the-variants.{BreadthFirst, DepthFirst};
+ghost use Rattle.structural.specs.Components.{connectedResult, strongComponentsResult, connectedComponentsResult};
+ghost use Rattle.structural.specs.Sort.{acyclicResult, sortResult};
+ghost use Rattle.structural.specs.Closure.{closureResult};
+ghost use Rattle.properties.specs.Results.{orphanVerticesResult, orphanHyperedgesResult, endpointsResult, inclusionsResult, nestednessResult, uniformResult};
+ghost use Rattle.cut.specs.Cut.{cutVerticesResult};
+ghost use Rattle.paths.specs.Paths.{pairResult, fromResult};
 ghost use Rattle.walk.specs.Walk.{walkResult};
 ghost use Rattle.frames.specs.Frames.{writeResult};
 use layout::HyperedgeIndex;
@@ -92,6 +99,30 @@ pub extern "C" fn vs_get_adjacent_vertices_to(t: &[u32], v: VertexIndex, out: &m
     layout::reply_of(lookups::get_adjacent_vertices_to(t, v, out))
 }
 
+// The vertices that a step from the vertex leads to, each with the hyperedges that step there.
+#[no_mangle]
+pub extern "C" fn vs_get_full_adjacent_vertices_from(
+    t: &[u32],
+    v: VertexIndex,
+    out: &mut [u32],
+) -> Reply
+    ensures { λ r. ⌜ replied r (now (out .exit)) ≡ onFormed (now (t .entry)) (now (out .entry)) (fullAdjacentResult false (v .0) (now (out .entry))) ⌝ }
+{
+    layout::reply_of(lookups::get_full_adjacent_vertices_from(t, v, out))
+}
+
+// The vertices from which a step leads to the vertex, each with the hyperedges that step so.
+#[no_mangle]
+pub extern "C" fn vs_get_full_adjacent_vertices_to(
+    t: &[u32],
+    v: VertexIndex,
+    out: &mut [u32],
+) -> Reply
+    ensures { λ r. ⌜ replied r (now (out .exit)) ≡ onFormed (now (t .entry)) (now (out .entry)) (fullAdjacentResult true (v .0) (now (out .entry))) ⌝ }
+{
+    layout::reply_of(lookups::get_full_adjacent_vertices_to(t, v, out))
+}
+
 // The places at which the vertex is stepped to.
 #[no_mangle]
 pub extern "C" fn vs_get_vertex_degree_in(t: &[u32], v: VertexIndex) -> Reply
@@ -119,6 +150,18 @@ pub extern "C" fn vs_get_hyperedges_connecting(
     ensures { λ r. ⌜ replied r (now (out .exit)) ≡ onFormed (now (t .entry)) (now (out .entry)) (connectingResult (from .0) (to .0) (now (out .entry))) ⌝ }
 {
     layout::reply_of(lookups::get_hyperedges_connecting(t, from, to, out))
+}
+
+// The vertices that every hyperedge of the list has as a member.
+#[no_mangle]
+pub extern "C" fn vs_get_hyperedges_intersections(
+    t: &[u32],
+    hyperedges: &[u32],
+    out: &mut [u32],
+) -> Reply
+    ensures { λ r. ⌜ replied r (now (out .exit)) ≡ onFormed (now (t .entry)) (now (out .entry)) (intersectionsResult (now (hyperedges .entry)) (now (out .entry))) ⌝ }
+{
+    layout::reply_of(lookups::get_hyperedges_intersections(t, hyperedges, out))
 }
 
 // The hyperedges of a weight.
@@ -166,9 +209,17 @@ pub extern "C" fn vs_get_vertex_index(t: &[u32], weight: u32, out: &mut [u32]) -
 // Lists what is reached from v, breadth first, smallest neighbour first.
 #[no_mangle]
 pub extern "C" fn vs_get_bfs(t: &[u32], v: VertexIndex, out: &mut [u32]) -> Reply
-    ensures { λ r. ⌜ replied r (now (out .exit)) ≡ onFormed (now (t .entry)) (now (out .entry)) (bfsResult (v .0) (now (out .entry))) ⌝ }
+    ensures { λ r. ⌜ replied r (now (out .exit)) ≡ onFormed (now (t .entry)) (now (out .entry)) (traversalResult BreadthFirst (v .0) (now (out .entry))) ⌝ }
 {
     layout::reply_of(traversal::get_bfs(t, v, out))
+}
+
+// Lists what is reached from v, depth first in preorder, smallest neighbour first.
+#[no_mangle]
+pub extern "C" fn vs_get_dfs(t: &[u32], v: VertexIndex, out: &mut [u32]) -> Reply
+    ensures { λ r. ⌜ replied r (now (out .exit)) ≡ onFormed (now (t .entry)) (now (out .entry)) (traversalResult DepthFirst (v .0) (now (out .entry))) ⌝ }
+{
+    layout::reply_of(traversal::get_dfs(t, v, out))
 }
 
 // Whether `to` is reached from `from` by a walk along steps, of no step or more: 1 or 0.
@@ -177,6 +228,137 @@ pub extern "C" fn vs_is_reachable(t: &[u32], from: VertexIndex, to: VertexIndex)
     ensures { λ r. ⌜ replied r [] ≡ onFormed (now (t .entry)) [] (reachableResult (from .0) (to .0)) ⌝ }
 {
     layout::reply_of(traversal::is_reachable(t, from, to))
+}
+
+// ---- Structure
+
+// Whether the table is empty, or all vertices are linked through co-membership: 1 or 0.
+#[no_mangle]
+pub extern "C" fn vs_is_connected(t: &[u32]) -> Reply
+    ensures { λ r. ⌜ replied r [] ≡ onFormed (now (t .entry)) [] connectedResult ⌝ }
+{
+    layout::reply_of(structural::is_connected(t))
+}
+
+// Whether no steps form a closed walk: 1 or 0.
+#[no_mangle]
+pub extern "C" fn vs_is_acyclic(t: &[u32]) -> Reply
+    ensures { λ r. ⌜ replied r [] ≡ onFormed (now (t .entry)) [] acyclicResult ⌝ }
+{
+    layout::reply_of(structural::is_acyclic(t))
+}
+
+// Lists the pairs x, y with x not y and y reachable from x, sorted, two words each.
+#[no_mangle]
+pub extern "C" fn vs_get_transitive_closure(t: &[u32], out: &mut [u32]) -> Reply
+    ensures { λ r. ⌜ replied r (now (out .exit)) ≡ onFormed (now (t .entry)) (now (out .entry)) (closureResult (now (out .entry))) ⌝ }
+{
+    layout::reply_of(structural::get_transitive_closure(t, out))
+}
+
+// Lists the live vertices in the smallest order in which every step goes forward.
+#[no_mangle]
+pub extern "C" fn vs_topological_sort(t: &[u32], out: &mut [u32]) -> Reply
+    ensures { λ r. ⌜ replied r (now (out .exit)) ≡ onFormed (now (t .entry)) (now (out .entry)) (sortResult (now (out .entry))) ⌝ }
+{
+    layout::reply_of(structural::topological_sort(t, out))
+}
+
+// Lists the strong components, latest-finished vertex first, each as its length and its members.
+#[no_mangle]
+pub extern "C" fn vs_strongly_connected_components(t: &[u32], out: &mut [u32]) -> Reply
+    ensures { λ r. ⌜ replied r (now (out .exit)) ≡ onFormed (now (t .entry)) (now (out .entry)) (strongComponentsResult (now (out .entry))) ⌝ }
+{
+    layout::reply_of(structural::strongly_connected_components(t, out))
+}
+
+// Lists the connected components, ordered by smallest member, each as its length and its members.
+#[no_mangle]
+pub extern "C" fn vs_connected_components(t: &[u32], out: &mut [u32]) -> Reply
+    ensures { λ r. ⌜ replied r (now (out .exit)) ≡ onFormed (now (t .entry)) (now (out .entry)) (connectedComponentsResult (now (out .entry))) ⌝ }
+{
+    layout::reply_of(structural::connected_components(t, out))
+}
+
+// ---- Properties
+
+// The vertices that no hyperedge lists.
+#[no_mangle]
+pub extern "C" fn vs_get_orphan_vertices(t: &[u32], out: &mut [u32]) -> Reply
+    ensures { λ r. ⌜ replied r (now (out .exit)) ≡ onFormed (now (t .entry)) (now (out .entry)) (orphanVerticesResult (now (out .entry))) ⌝ }
+{
+    layout::reply_of(properties::get_orphan_vertices(t, out))
+}
+
+// The hyperedges without members: a well-formed table has none.
+#[no_mangle]
+pub extern "C" fn vs_get_orphan_hyperedges(t: &[u32], out: &mut [u32]) -> Reply
+    ensures { λ r. ⌜ replied r (now (out .exit)) ≡ onFormed (now (t .entry)) (now (out .entry)) (orphanHyperedgesResult (now (out .entry))) ⌝ }
+{
+    layout::reply_of(properties::get_orphan_hyperedges(t, out))
+}
+
+// The vertices with no step in and those with no step out: count, sources, count, sinks.
+#[no_mangle]
+pub extern "C" fn vs_get_endpoints(t: &[u32], out: &mut [u32]) -> Reply
+    ensures { λ r. ⌜ replied r (now (out .exit)) ≡ onFormed (now (t .entry)) (now (out .entry)) (endpointsResult (now (out .entry))) ⌝ }
+{
+    layout::reply_of(properties::get_endpoints(t, out))
+}
+
+// The pairs of hyperedges of which the first's distinct members are strictly within the second's.
+#[no_mangle]
+pub extern "C" fn vs_get_inclusions(t: &[u32], out: &mut [u32]) -> Reply
+    ensures { λ r. ⌜ replied r (now (out .exit)) ≡ onFormed (now (t .entry)) (now (out .entry)) (inclusionsResult (now (out .entry))) ⌝ }
+{
+    layout::reply_of(properties::get_inclusions(t, out))
+}
+
+// The vertices without which two others, linked through co-membership, no longer are.
+#[no_mangle]
+pub extern "C" fn vs_find_cut_vertices(t: &[u32], out: &mut [u32]) -> Reply
+    ensures { λ r. ⌜ replied r (now (out .exit)) ≡ onFormed (now (t .entry)) (now (out .entry)) (cutVerticesResult (now (out .entry))) ⌝ }
+{
+    layout::reply_of(properties::find_cut_vertices(t, out))
+}
+
+// A row of size, included and total for each size that some hyperedge has.
+#[no_mangle]
+pub extern "C" fn vs_get_nestedness_profile(t: &[u32], out: &mut [u32]) -> Reply
+    ensures { λ r. ⌜ replied r (now (out .exit)) ≡ onFormed (now (t .entry)) (now (out .entry)) (nestednessResult (now (out .entry))) ⌝ }
+{
+    layout::reply_of(properties::get_nestedness_profile(t, out))
+}
+
+// Whether every hyperedge has k members, repeats counted.
+#[no_mangle]
+pub extern "C" fn vs_is_k_uniform(t: &[u32], k: usize) -> Reply
+    ensures { λ r. ⌜ replied r [] ≡ onFormed (now (t .entry)) [] (uniformResult k) ⌝ }
+{
+    layout::reply_of(properties::is_k_uniform(t, k))
+}
+
+// ---- Paths
+
+// Lists the best walk from `from` to `to`: its cost as low word and high word, the count of entries, and the entries of vertex and hyperedge.
+#[no_mangle]
+pub extern "C" fn vs_get_dijkstra_connections_with_cost(
+    t: &[u32],
+    from: VertexIndex,
+    to: VertexIndex,
+    out: &mut [u32],
+) -> Reply
+    ensures { λ r. ⌜ replied r (now (out .exit)) ≡ onFormed (now (t .entry)) (now (out .entry)) (pairResult (from .0) (to .0) (now (out .entry))) ⌝ }
+{
+    layout::reply_of(paths::get_dijkstra_connections_with_cost(t, from, to, out))
+}
+
+// Lists each vertex that is reached from `from` with its cost, ascending: vertex, low word, high word.
+#[no_mangle]
+pub extern "C" fn vs_get_dijkstra_from(t: &[u32], from: VertexIndex, out: &mut [u32]) -> Reply
+    ensures { λ r. ⌜ replied r (now (out .exit)) ≡ onFormed (now (t .entry)) (now (out .entry)) (fromResult (from .0) (now (out .entry))) ⌝ }
+{
+    layout::reply_of(paths::get_dijkstra_from(t, from, out))
 }
 
 // ---- The walk
