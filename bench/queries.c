@@ -53,7 +53,7 @@ int main(void) {
     QUERY("contains_vertex", 8000, timed_contains_vertex(full, WORDS, 500));
     QUERY("is_reachable", 80000, timed_is_reachable(full, WORDS, 0, 255));
     QUERY("bfs", 80000, timed_get_bfs(full, WORDS, 0, out, ROOM));
-    QUERY("write_frames", 200000, timed_write_frames(full, WORDS, text, sizeof text));
+    QUERY("write_frames", 60000, timed_write_frames(full, WORDS, text, sizeof text));
     QUERY("random_walk of 64 steps", 140625, timed_random_walk(full, WORDS, 0, 64, 1, out, ROOM));
     return 0;
 }
