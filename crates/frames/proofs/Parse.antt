@@ -1,22 +1,21 @@
 -- Digits read back: the bytes of a text, and the lines that they make up. Assumes nothing.
 use mathlib.Core.Path.{_≡_, refl, sym, ap, ap₂, _∙_}
-use mathlib.Core.Bool.{Bool, true, false}
+use mathlib.Core.Bool.{Bool, true}
 use mathlib.Core.Logic.{_⊎_, inl, inr, ⊎-elim}
 use mathlib.Core.List.{List, [], _∷_, _++_, append-assoc}
 use Prim.Native.Nat.{ℕ, zero, suc, _+_, _-_, _*_, _/_, _%_, _≤_, _<_}
 use native.Mathlib.Nat.{add-zero, zero-add}
 use native.Mathlib.Numerals.{add-one}
 use native.Mathlib.Omega.{arith}
-use lib.Dec.{ltb, eqb}
+use lib.Dec.{eqb}
 use lib.ListN.{length, getD, take, drop, length-append, length-drop, take-append-drop}
-use lib.Seq.{drop-cons, drop-drop, drop-at, take-at, getD-drop}
+use lib.Seq.{drop-cons, drop-drop, take-at, getD-drop}
 use borrow.Author.Tests.{ltb-true, lt-ltb, le-ltb, eqb-true, eq-eqb}
 use Rattle.lists.specs.Tests.{_and_, every}
 use Rattle.lists.specs.Lists.{all, isBelow, sameList, tab, flat}
 use Rattle.lists.proofs.Cases.{on-below, clash, and-left, and-right, and-both}
 use Rattle.lists.proofs.Every.{every-at}
 use Rattle.lists.proofs.Tab.{tab-ext}
-use Rattle.lists.proofs.Flat.{flat-append, flat-snoc}
 use Rattle.frames.specs.Frames.{byteValues, byteOf, numberBytes, shortBytes, byteSum, balance, check, sealed, digit, byteDigits, digits, lineEnd, line}
 use Rattle.frames.specs.Reading.{noValue, value, byteAt, shortAt, numberAt, standsAt}
 use Rattle.frames.specs.Bytes.{bytesAt}
@@ -223,7 +222,7 @@ same-eq [] (y ∷ ys) e = clash e refl
 same-eq (x ∷ xs) [] e = clash e refl
 same-eq (x ∷ xs) (y ∷ ys) e = ap₂ (λ (a : ℕ) (l : List ℕ). a ∷ l) (eqb-true x y (and-left _ _ e)) (same-eq xs ys (and-right _ _ e))
 
-same-refl : (xs : List ℕ) → sameList xs xs ≡ true
+pub same-refl : (xs : List ℕ) → sameList xs xs ≡ true
 unfolding sameList
 same-refl [] = refl
 same-refl (x ∷ xs) = and-both _ _ (eq-eqb x x refl) (same-refl xs)
@@ -262,7 +261,11 @@ unfolding all
 all-snoc-of f [] x a b = and-both _ _ b refl
 all-snoc-of f (y ∷ xs) x a b = and-both _ _ (and-left _ _ a) (all-snoc-of f xs x (and-right _ _ a) b)
 
-bytes-snoc : (text : List ℕ) (p k : ℕ) → bytesAt text p (suc k) ≡ bytesAt text p k ++ (byteAt text (p + k * 2) ∷ [])
+pub sealed-low : (fr : List ℕ) → all (isBelow byteValues) fr ≡ true → all (isBelow byteValues) (sealed fr) ≡ true
+unfolding sealed
+sealed-low fr low = all-snoc-of (isBelow byteValues) fr (check fr) low (lt-ltb (check fr) byteValues (check-low fr))
+
+pub bytes-snoc : (text : List ℕ) (p k : ℕ) → bytesAt text p (suc k) ≡ bytesAt text p k ++ (byteAt text (p + k * 2) ∷ [])
 unfolding bytesAt
 bytes-snoc text p k = ap (bytesAt text p) (sym (add-one k)) ∙ bytes-append text p k 1
 

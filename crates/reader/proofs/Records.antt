@@ -1,0 +1,100 @@
+-- The lines of records: what the tests say of what the writer gives. Assumes nothing.
+use mathlib.Core.Path.{_≡_, refl, sym, ap, ap₂, _∙_}
+use mathlib.Core.Bool.{Bool, true, false, not}
+use mathlib.Core.List.{List, [], _∷_, _++_}
+use Prim.Native.Nat.{ℕ, suc, _+_, _*_, _%_, _≤_}
+use native.Mathlib.Nat.{add-zero}
+use native.Mathlib.Omega.{arith}
+use lib.ListN.{length, getD}
+use borrow.Author.Tests.{le-leb, leb-true, eq-eqb, eqb-true, lt-ltb, not-true}
+use Rattle.lists.specs.Tests.{_and_}
+use Rattle.lists.specs.Lists.{all, isBelow}
+use Rattle.lists.proofs.Cases.{on, clash, and-left, and-right, and-both}
+use Rattle.frames.specs.Frames.{byteValues, byteOf, numberBytes, vertexFrame, byteSum, sealed, line, vertexLine, vertexOf}
+use Rattle.frames.specs.Reading.{byteAt, numberAt, numberIn, weightIn, standsAt}
+use Rattle.frames.specs.Bytes.{bytesAt}
+use Rattle.frames.proofs.Lines.{sealed-sum}
+use Rattle.frames.proofs.Parse.{bytes-at, bytes-append, bytes-front, number-bytes, line-stands, line-parts, sealed-low}
+use Rattle.reader.specs.Lines.{sealedAt, Sealed, numberFits, vertexFits}
+
+low-append : (xs ys : List ℕ) → all (isBelow byteValues) xs ≡ true → all (isBelow byteValues) ys ≡ true → all (isBelow byteValues) (xs ++ ys) ≡ true
+unfolding all
+low-append [] ys a b = b
+low-append (x ∷ xs) ys a b = and-both _ _ (and-left _ _ a) (low-append xs ys (and-right _ _ a) b)
+
+low-number : (x : ℕ) → all (isBelow byteValues) (numberBytes x) ≡ true
+unfolding all numberBytes
+low-number x =
+    and-both _ _ (lt-ltb (byteOf x 16777216) byteValues (omega arith)) (and-both _ _ (lt-ltb (byteOf x 65536) byteValues (omega arith))
+    (and-both _ _ (lt-ltb (byteOf x byteValues) byteValues (omega arith)) (and-both _ _ (lt-ltb (byteOf x 1) byteValues (omega arith)) refl)))
+
+-- a frame of bytes: its line stands exactly where the test of a frame passes, and its bytes are those
+module _ (text : List ℕ) (p : ℕ) (fr : List ℕ) where
+  frame-sealed : p ≤ length text → all (isBelow byteValues) fr ≡ true → standsAt text p (line fr) ≡ true
+      → (sealedAt text p (suc (length fr)) ≡ true) × (bytesAt text p (suc (length fr)) ≡ sealed fr)
+  unfolding sealedAt
+  frame-sealed h low st =
+      let q = line-parts text p fr h low st in (
+        and-both _ _ (le-leb _ _ (q .2)) (and-both _ _ (eq-eqb _ _ (q .1))
+            (and-both _ _ (ap (all (isBelow byteValues)) (q .0) ∙ sealed-low fr low) (eq-eqb _ _ (ap (λ (bs : List ℕ). byteSum bs % byteValues) (q .0) ∙ sealed-sum fr)))),
+        q .0,
+      )
+
+  frame-stands : sealedAt text p (suc (length fr)) ≡ true → fr ≡ bytesAt text p (length fr) → standsAt text p (line fr) ≡ true
+  unfolding sealedAt
+  frame-stands s e =
+      line-stands text p fr (leb-true _ _ (and-left _ _ s)) (eqb-true _ _ (and-left _ _ (and-right _ _ s)))
+      (and-left _ _ (and-right _ _ (and-right _ _ s))) (eqb-true _ _ (and-right _ _ (and-right _ _ (and-right _ _ s)))) e
+
+within : {text : List ℕ} {p k : ℕ} → Sealed text p k → p ≤ length text
+within s = omega (arith, s .room)
+
+first : (text : List ℕ) (p k : ℕ) → byteAt text p ∷ bytesAt text (p + 2) k ≡ bytesAt text p (suc k)
+unfolding bytesAt
+first text p k = refl
+
+-- ---- vertices
+
+module _ (text : List ℕ) (p low high : ℕ) where
+  vertex-bytes : List ℕ
+  vertex-bytes = vertexFrame (vertexOf (numberIn text p) (weightIn text p))
+
+  vertex-low : all (isBelow byteValues) vertex-bytes ≡ true
+  unfolding vertex-bytes vertexFrame all
+  vertex-low = and-both _ _ refl (low-append (numberBytes (numberIn text p)) (numberBytes (weightIn text p)) (low-number (numberIn text p)) (low-number (weightIn text p)))
+
+  vertex-sealed : p ≤ length text → standsAt text p (vertexLine (vertexOf (numberIn text p) (weightIn text p))) ≡ true → (sealedAt text p 10 ≡ true) × (byteAt text p ≡ 1)
+  unfolding vertexLine vertex-bytes vertexFrame numberBytes sealed
+  vertex-sealed h st =
+      let q = frame-sealed text p vertex-bytes h vertex-low st in
+      (q .0, ap (byteAt text) (sym (add-zero p)) ∙ sym (bytes-at text p 10 0 (omega arith)) ∙ ap (λ (l : List ℕ). getD l 0 0) (q .1))
+
+  vertex-is : Sealed text p 10 → byteAt text p ≡ 1 → vertex-bytes ≡ bytesAt text p 9
+  unfolding vertex-bytes vertexFrame
+  vertex-is s e =
+      let a = bytes-front text p 9 1 (s .low) in
+      let b = bytes-front text p 1 8 (a .0) in
+      let c = bytes-front text (p + 2) 4 4 (b .1) in
+      ap₂ (λ (x : ℕ) (l : List ℕ). x ∷ l) (sym e)
+      (ap₂ (λ (x y : List ℕ). x ++ y) (number-bytes text (p + 2) (c .0)) (ap (λ (n : ℕ). numberBytes (numberAt text n)) (omega arith) ∙ number-bytes text (p + 2 + 4 * 2) (c .1)) ∙ sym (bytes-append text (p + 2) 4 4))
+      ∙ first text p 8
+
+  vertex-stands : Sealed text p 10 → byteAt text p ≡ 1 → standsAt text p (vertexLine (vertexOf (numberIn text p) (weightIn text p))) ≡ true
+  unfolding vertexLine vertex-bytes vertexFrame numberBytes
+  vertex-stands s e = frame-stands text p vertex-bytes (s .is) (vertex-is s e)
+
+  pub vertex-unsealed : (r : Bool) → p ≤ length text → r ≡ sealedAt text p 10 → not r ≡ true → false ≡ vertexFits text p low high
+  unfolding vertexFits _and_
+  vertex-unsealed r h e n = on (standsAt text p (vertexLine (vertexOf (numberIn text p) (weightIn text p))))
+      (λ st. clash (vertex-sealed h st .0) (sym e ∙ not-true r n))
+      (λ st. rw st)
+
+  pub vertex-other : (b : ℕ) → Sealed text p 10 → b ≡ byteAt text p → (b ≡ 1 → ⊥) → false ≡ vertexFits text p low high
+  unfolding vertexFits _and_
+  vertex-other b s e n = on (standsAt text p (vertexLine (vertexOf (numberIn text p) (weightIn text p))))
+      (λ st. absurd (n (e ∙ vertex-sealed (within s) st .1)))
+      (λ st. rw st)
+
+  pub vertex-rest : (b x : ℕ) (r : Bool) → Sealed text p 10 → b ≡ byteAt text p → b ≡ 1 → x ≡ numberIn text p → r ≡ numberFits x low high → r ≡ vertexFits text p low high
+  unfolding vertexFits _and_
+  vertex-rest b x r s e o q f = rw (vertex-stands s (sym e ∙ o)) (f ∙ ap (λ (y : ℕ). numberFits y low high) q)
