@@ -32,7 +32,7 @@ reply timed_write_frames(T, uint8_t *text, size_t text_bytes);
 
 enum { ROOM = 131072 };
 
-static uint32_t full[WORDS], ascending[WORDS], alone[WORDS], out[ROOM];
+static uint32_t full[WORDS], ascending[WORDS], out[ROOM];
 static uint8_t text[4 * ROOM];
 
 #define ANSWER(what, table, expected, limit_ns, call)                 \
@@ -61,7 +61,6 @@ static uint8_t text[4 * ROOM];
 int main(void) {
     fill_dense(full);
     fill_ascending(ascending);
-    fill_alone(alone);
     puts("Queries, the test of the table included.");
     table_head();
     QUERY("adjacent_vertices_from", 8000, timed_get_adjacent_vertices_from(full, WORDS, 100, out, ROOM));
@@ -81,7 +80,6 @@ int main(void) {
     QUERY("connected_components", 80000, timed_connected_components(full, WORDS, out, ROOM));
     QUERY("strong components", 400000, timed_strongly_connected_components(full, WORDS, out, ROOM));
     ANSWER("strong components, 256", "full, dense, lists ascending", 0, 400000, timed_strongly_connected_components(ascending, WORDS, out, ROOM));
-    ANSWER("connected components, 256", "256 vertices, no hyperedge", 0, 80000, timed_connected_components(alone, WORDS, out, ROOM));
     ANSWER_SLOW("closure", "full, dense numbers", 0, 10000000, timed_get_transitive_closure(full, WORDS, out, ROOM));
     QUERY("write_frames", 200000, timed_write_frames(full, WORDS, text, sizeof text));
     QUERY("random_walk of 64 steps", 140625, timed_random_walk(full, WORDS, 0, 64, 1, out, ROOM));
