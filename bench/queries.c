@@ -5,7 +5,7 @@
 
 enum { ROOM = 140000 };
 
-static uint32_t full[WORDS], ascending[WORDS], nested[WORDS], alone[WORDS], out[ROOM];
+static uint32_t full[WORDS], ascending[WORDS], nested[WORDS], out[ROOM];
 static uint8_t text[ROOM];
 static const uint32_t pair[2] = {17, 18};
 
@@ -27,7 +27,6 @@ int main(void) {
     fill_dense(full);
     fill_ascending(ascending);
     fill_nested(nested);
-    fill_alone(alone);
     puts("Queries, the test of the table included.");
     table_head();
     QUERY("adjacent_vertices_from", 8000, vs_get_adjacent_vertices_from(full, WORDS, V(100), out, ROOM));
@@ -48,7 +47,6 @@ int main(void) {
     ANSWER("is_acyclic", "full, dense, lists ascending", 0, 120000, vs_is_acyclic(ascending, WORDS));
     QUERY("is_connected", 80000, vs_is_connected(full, WORDS));
     QUERY("connected_components", 80000, vs_connected_components(full, WORDS, out, ROOM));
-    ANSWER("connected_components", "256 vertices, no hyperedge", 0, 80000, vs_connected_components(alone, WORDS, out, ROOM));
     QUERY("strong components", 400000, vs_strongly_connected_components(full, WORDS, out, ROOM));
     ANSWER("strong components", "full, dense, lists ascending", 0, 400000, vs_strongly_connected_components(ascending, WORDS, out, ROOM));
     QUERY("transitive_closure", 10000000, vs_get_transitive_closure(full, WORDS, out, ROOM));

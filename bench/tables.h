@@ -62,16 +62,6 @@ static inline void fill_ascending(uint32_t *t) {
     }
 }
 
-<<<<<<< HEAD
-/* The same vertices and no hyperedge. */
-static inline void fill_alone(uint32_t *t) {
-    fill_dense(t);
-    t[3] = 0;
-    memset(t + HYPEREDGES_AT, 0, (WORDS - HYPEREDGES_AT) * sizeof *t);
-}
-
-=======
->>>>>>> comps
 /* Numbers with gaps of 1 to 1,000. */
 static inline void fill_gaps(uint32_t *t) {
     uint32_t numbers[VERTICES], x = 0;

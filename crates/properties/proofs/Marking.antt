@@ -19,7 +19,8 @@ use Rattle.layout.specs.Steps.{stepsOf}
 use Rattle.layout.proofs.Read.{live-length}
 use Rattle.marks.specs.Marks.{isMarked, marked}
 use Rattle.marks.proofs.Marked.{marked-filter}
-use Rattle.lookups.specs.Lookups.{hasEnd, someOf, with, noMarks, MarkedBy}
+use Rattle.lookups.specs.Lookups.{hasEnd}
+use Rattle.lookups.specs.State.{someOf, with, noMarks, MarkedBy}
 use Rattle.lookups.proofs.Marking.{marked-as, no-marks-length}
 use Rattle.properties.specs.Properties.{isOrphan, orphanVertices, stepsAt, isEndpoint, sources, sinks, twice, endpoints}
 use Rattle.properties.specs.State.{trimmed, inTrimmed}

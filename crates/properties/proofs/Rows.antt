@@ -22,7 +22,7 @@ use Rattle.layout.specs.Layout.{limit, vertexLimit, vertexCount, hyperedgeCount
 use Rattle.layout.specs.WellFormed.{Formed}
 use Rattle.marks.specs.Marks.{isMarked}
 use Rattle.steps.proofs.Any.{any-at, any-of}
-use Rattle.lookups.specs.Lookups.{noMarks}
+use Rattle.lookups.specs.State.{noMarks}
 use Rattle.lookups.proofs.Marking.{no-marks-length}
 use Rattle.properties.specs.Properties.{isWithin, hasSize, isIncluded, includedOfSize, included, total, isSize, row, nestedness}
 use Rattle.properties.specs.State.{Sets, Including, Classed, sizeAt, rowIf, itself, Wrote}

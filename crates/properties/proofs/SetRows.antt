@@ -22,7 +22,7 @@ use Rattle.layout.specs.WellFormed.{Formed}
 use Rattle.layout.proofs.Read.{live-length}
 use Rattle.marks.specs.Marks.{isMarked}
 use Rattle.steps.specs.Matrices.{cell}
-use Rattle.lookups.specs.Lookups.{someOf, noMarks, MarkedBy}
+use Rattle.lookups.specs.State.{someOf, noMarks, MarkedBy}
 use Rattle.properties.specs.Properties.{memberSet, size, under, within, isWithin}
 use Rattle.properties.specs.State.{rowOf, SetOf, RowPut, Sets}
 use Rattle.properties.proofs.Marking.{any-memb, marks-are}

@@ -11,7 +11,7 @@ ghost use Rattle.layout.specs.WellFormed.{Formed};
 ghost use Rattle.layout.specs.Answers.{result, onFormed, listed};
 ghost use Rattle.marks.specs.Marks.{isMarked, marked};
 ghost use Rattle.cut.specs.Cut.{cutVerticesResult};
-ghost use Rattle.lookups.specs.Lookups.{someOf, with, noMarks, MarkedBy};
+ghost use Rattle.lookups.specs.State.{someOf, with, noMarks, MarkedBy};
 ghost use Rattle.properties.specs.Properties.{counted, twice, uniform};
 ghost use Rattle.properties.specs.Results.{orphanVerticesResult, orphanHyperedgesResult, endpointsResult, uniformResult, inclusionsResult, nestednessResult};
 ghost use Rattle.properties.specs.State.{inTrimmed, Wrote};

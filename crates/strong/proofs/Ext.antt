@@ -5,7 +5,7 @@ use mathlib.Core.List.{reverse}
 use Prim.Native.Nat.{ℕ, zero, suc, _+_, _≤_, _<_}
 use native.Mathlib.Omega.{arith}
 use Rattle.lists.specs.Tests.{_and_}
-use Rattle.depth.specs.Dfs.{St, unmarked, mark, finish, tried, tries, visits}
+use Rattle.depth.specs.Dfs.{St, unmarked, mark, enlist, tried, tries, visits}
 use Rattle.depth.specs.Finish.{start, sweep, blank, finished}
 use Rattle.components.specs.Classes.{reached, classes}
 use Rattle.components.proofs.Roots.{classes-ext}
@@ -26,7 +26,7 @@ module _ (E F : ℕ → ℕ → Bool) (n : ℕ) (h : (i j : ℕ) → i < n → j
   visits-ext : (f x : ℕ) (s : St) → x < n → visits E n f x s ≡ visits F n f x s
   unfolding visits
   visits-ext zero x s l = refl
-  visits-ext (suc f) x s l = ap (finish x) (tries-ext (visits E n f) (visits F n f) (λ k t lk. visits-ext f k t lk) x n (mark x s) l (omega arith))
+  visits-ext (suc f) x s l = ap (enlist x) (tries-ext (visits E n f) (visits F n f) (λ k t lk. visits-ext f k t lk) x n (mark x s) l (omega arith))
 
   sweep-ext : (m x : ℕ) (s : St) → x + m ≤ n → sweep E n m x s ≡ sweep F n m x s
   unfolding sweep start

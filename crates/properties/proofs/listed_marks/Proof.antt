@@ -6,7 +6,7 @@ use denote.Ref.{now}
 use lib.ListN.{drop}
 use Rattle.layout.specs.Content.{liveVertices}
 use Rattle.layout.specs.Layout.{limit, read, readHyperedges}
-use Rattle.lookups.specs.Lookups.{noMarks}
+use Rattle.lookups.specs.State.{noMarks}
 use Rattle.lookups.proofs.Places.{records-more, records-none}
 use Rattle.lookups.proofs.Marking.{Marking, marking-none, marking-more, marking-end, no-marks-length}
 use Rattle.properties.specs.State.{inTrimmed}

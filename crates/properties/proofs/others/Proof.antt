@@ -1,7 +1,7 @@
 -- `properties::others` meets its contract. Assumes nothing.
 use Prim.Native.Nat.{_≤_, _-_}
 use Rattle.layout.specs.Layout.{vertexLimit}
-use Rattle.lookups.specs.Lookups.{noMarks}
+use Rattle.lookups.specs.State.{noMarks}
 use Rattle.properties.proofs.Marking.{Turned, turned-none, turned-more, turned-end}
 use borrow.Author.Needs.{needs}
 use Rattle.properties.proofs.others.Statement.{statement}

@@ -1,7 +1,7 @@
 -- `properties::nestedness::included_marks` meets its contract. Assumes nothing.
 use Prim.Native.Nat.{_≤_, _-_}
 use native.Mathlib.Omega.{arith}
-use Rattle.lookups.specs.Lookups.{noMarks}
+use Rattle.lookups.specs.State.{noMarks}
 use Rattle.properties.specs.State.{Including}
 use Rattle.properties.proofs.Rows.{including-none, including-more, including-end}
 use borrow.Author.Needs.{needs}

@@ -1,5 +1,5 @@
 -- `properties::sets::member_marks` meets its contract. Assumes nothing.
-use Rattle.lookups.specs.Lookups.{noMarks}
+use Rattle.lookups.specs.State.{noMarks}
 use Rattle.properties.proofs.SetRows.{set-marked}
 use borrow.Author.Needs.{needs}
 use Rattle.properties.proofs.sets.member_marks.Statement.{statement}
