@@ -9,7 +9,7 @@ use Rattle.layout.specs.Steps.{stepsOf, isStep, makesStep, hasStep}
 use Rattle.layout.specs.Answers.{result, listed}
 use Rattle.graph.specs.Bfs.{push, spread, run, bfs}
 use Rattle.steps.specs.Matrices.{linked}
-use Rattle.traversal.specs.Traversal.{breadthFrom, breadthFirst, reachable}
+use Rattle.traversal.specs.Traversal.{listFrom, traversal, reachable}
 use Rattle.depth.specs.Dfs.{tried, tries, visits}
 use Rattle.depth.specs.Finish.{start, sweep, finished}
 use Rattle.components.specs.Classes.{rooted, rootsFrom, classes}
@@ -20,7 +20,7 @@ use Rattle.structural.proofs.SortingSheets.{G}
 
 -- P4: G closure is 0-1 0-2 0-3 1-2 3-2
 p4 : closureOf G ≡ 0 ∷ 1 ∷ 0 ∷ 2 ∷ 0 ∷ 3 ∷ 1 ∷ 2 ∷ 3 ∷ 2 ∷ []
-unfolding closureOf filter reachesOther reachable breadthFirst breadthFrom position positionFrom bfs run spread push hasStep makesStep isStep stepsOf any _and_ flat
+unfolding closureOf filter reachesOther reachable traversal listFrom position positionFrom bfs run spread push hasStep makesStep isStep stepsOf any _and_ flat
 p4 = refl
 
 -- P5: G strong is [4] [0] [1] [3] [2]
