@@ -225,6 +225,20 @@ impl Run {
         }
     }
 
+    /// A long sequence of random edits alone, the tables compared after each.
+    fn edits(&mut self, draw: &mut Draw, n: u32, edits_to_make: usize) {
+        let mut both = Both::new();
+        let mut edits = Vec::new();
+        for weight in 0..n {
+            self.edit(&mut both, &mut edits, Edit::AddVertex(1000 + weight));
+        }
+        let mut fresh = 1000 + n;
+        for _ in 0..edits_to_make {
+            let edit = draw.edit(&both, &mut fresh);
+            self.edit(&mut both, &mut edits, edit);
+        }
+    }
+
     /// A table built by additions alone, with walks.
     fn additions(&mut self, draw: &mut Draw, n: u32, m: u32, members: u32, acyclic: bool) -> Both {
         let mut both = Both::new();
@@ -271,10 +285,13 @@ fn main() {
         shown: 0,
     };
     run.small();
-    for round in 0..60 {
+    for round in 0..100 {
         run.sequence(&mut draw, 3 + round % 12, 150);
     }
-    for round in 0..200 {
+    for round in 0..40 {
+        run.edits(&mut draw, 1 + 6 * round, 2500);
+    }
+    for round in 0..300 {
         run.additions(&mut draw, 2 + round % 14, 1 + round % 11, 2 + round % 6, round % 3 == 0);
     }
     for acyclic in [false, true] {
