@@ -1,4 +1,4 @@
-// Runs the traversal on a chain of 256 vertices, the longest walk that a table can hold. A line for each call: what was asked, then
+// Runs the searches on a chain of 256 vertices, the longest walk that a table can hold. A line for each call: what was asked, then
 // the answer's number and detail; for a listing that is done also its first two vertices and its last.
 use edits::add_hyperedge::add_hyperedge;
 use edits::add_vertex::add_vertex;
@@ -66,6 +66,25 @@ fn depth_first(t: &[u32]) {
     say_ends(&out);
 }
 
+fn sorted(t: &[u32]) {
+    let mut out = [0u32; 256];
+    say(b"sort", structural::topological_sort(t, &mut out));
+    say_ends(&out);
+}
+
+// The first component's length and member, and the last one's member.
+fn strong(t: &[u32]) {
+    let mut out = [0u32; 512];
+    say(
+        b"strong components",
+        structural::strongly_connected_components(t, &mut out),
+    );
+    say_vertex(out[0]);
+    say_vertex(out[1]);
+    say_vertex(out[511]);
+    io::write_all(STDOUT_FILENO, b"\n");
+}
+
 fn reached(t: &[u32]) {
     say(
         b"0 to 255",
@@ -105,6 +124,8 @@ fn ask(t: &[u32]) {
     let mut out = [0u32; 255];
     breadth_first(t);
     depth_first(t);
+    sorted(t);
+    strong(t);
     reached(t);
     short(t, &mut out);
 }
