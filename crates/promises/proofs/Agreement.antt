@@ -108,7 +108,6 @@ clear-agrees κs args a b x y p q = agree _ p q
 pub is-empty-agrees : Agrees 1 is-empty.ps is-empty.r is-empty-reads.Post (λ _ _. [])
 is-empty-agrees κs args a b x y p q = agree _ p q
 
-
 -- ---- lookups
 
 pub get-adjacent-vertices-from-agrees : Agrees 2 get-adjacent-vertices-from.ps get-adjacent-vertices-from.r get-adjacent-vertices-from-reads.Post (λ _ x. now (x .1 .1 .0))
@@ -150,7 +149,6 @@ get-vertex-neighborhood-agrees κs args a b x y p q = agree _ p q
 pub get-vertex-index-agrees : Agrees 2 get-vertex-index.ps get-vertex-index.r get-vertex-index-reads.Post (λ _ x. now (x .1 .1 .0))
 get-vertex-index-agrees κs args a b x y p q = agree _ p q
 
-
 -- ---- traversal
 
 pub get-bfs-agrees : Agrees 2 get-bfs.ps get-bfs.r get-bfs-reads.Post (λ _ x. now (x .1 .1 .0))
@@ -161,7 +159,6 @@ get-dfs-agrees κs args a b x y p q = agree _ p q
 
 pub is-reachable-agrees : Agrees 1 is-reachable.ps is-reachable.r is-reachable-reads.Post (λ _ _. [])
 is-reachable-agrees κs args a b x y p q = agree _ p q
-
 
 -- ---- structure
 
@@ -182,7 +179,6 @@ strongly-connected-components-agrees κs args a b x y p q = agree _ p q
 
 pub connected-components-agrees : Agrees 2 connected-components.ps connected-components.r connected-components-reads.Post (λ _ x. now (x .1 .0))
 connected-components-agrees κs args a b x y p q = agree _ p q
-
 
 -- ---- properties
 
@@ -207,7 +203,6 @@ get-nestedness-profile-agrees κs args a b x y p q = agree _ p q
 pub is-k-uniform-agrees : Agrees 1 is-k-uniform.ps is-k-uniform.r is-k-uniform-reads.Post (λ _ _. [])
 is-k-uniform-agrees κs args a b x y p q = agree _ p q
 
-
 -- ---- paths
 
 pub get-dijkstra-connections-with-cost-agrees : Agrees 2 get-dijkstra-connections-with-cost.ps get-dijkstra-connections-with-cost.r get-dijkstra-connections-with-cost-reads.Post (λ _ x. now (x .1 .1 .1 .0))
@@ -216,15 +211,12 @@ get-dijkstra-connections-with-cost-agrees κs args a b x y p q = agree _ p q
 pub get-dijkstra-from-agrees : Agrees 2 get-dijkstra-from.ps get-dijkstra-from.r get-dijkstra-from-reads.Post (λ _ x. now (x .1 .1 .0))
 get-dijkstra-from-agrees κs args a b x y p q = agree _ p q
 
-
 -- ---- the walk
 
 pub random-walk-agrees : Agrees 2 random-walk.ps random-walk.r random-walk-reads.Post (λ _ x. now (x .1 .1 .1 .1 .0))
 random-walk-agrees κs args a b x y p q = agree _ p q
 
-
 -- ---- frames
 
 pub write-frames-agrees : Agrees 2 write-frames.ps write-frames.r write-frames-reads.Post (λ _ x. now (x .1 .0))
 write-frames-agrees κs args a b x y p q = agree _ p q
-
