@@ -5,3 +5,6 @@ pub mod Frame
 pub mod Words
 pub mod Live
 pub mod Records
+pub mod Pasted
+pub mod HeadLine
+pub mod VertexLines

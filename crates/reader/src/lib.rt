@@ -16,21 +16,20 @@ ghost use Rattle.reader.specs.Passes.{Live};
 use layout::Answer;
 use layout::Found;
 
+mod head;
+mod vertices;
+
 // How many values a byte has.
 const BYTE_VALUES: usize = 256;
 
-// The bytes of a frame, with its last: of the head, of a vertex, of a hyperedge with no member, and of a member.
-const HEAD_BYTES: usize = 16;
-
+// The bytes of a frame, with its last: of a vertex, of a hyperedge with no member, and of a member.
 const VERTEX_BYTES: usize = 10;
 
 const HYPEREDGE_BYTES: usize = 11;
 
 const MEMBER_BYTES: usize = 4;
 
-// The digits of a head line with its line feed, of a member, and of a hyperedge line with no member.
-const HEAD_LENGTH: usize = 33;
-
+// The digits of a member, and of a hyperedge line with no member and with its line feed.
 const MEMBER_LENGTH: usize = 8;
 
 const HYPEREDGE_LENGTH: usize = 23;
