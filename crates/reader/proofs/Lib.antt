@@ -5,3 +5,4 @@ pub mod Frame
 pub mod Words
 pub mod Live
 pub mod Records
+pub mod HyperedgeLine

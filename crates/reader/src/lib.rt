@@ -13,6 +13,9 @@ ghost use Rattle.frames.specs.Put.{Put};
 ghost use Rattle.frames.specs.Reading.{noValue, value, byteAt, shortAt, numberAt, numberIn, weightIn, countIn, memberIn, hyperedgeFrom, standsAt};
 ghost use Rattle.reader.specs.Lines.{Valued, frameSum, lineEnd, sealedAt, Sealed, countsFit, numberFits, vertexFits};
 ghost use Rattle.reader.specs.Passes.{Live};
+
+mod hyperedges;
+
 use layout::Answer;
 use layout::Found;
 
