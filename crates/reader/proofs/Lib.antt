@@ -6,3 +6,4 @@ pub mod Words
 pub mod Live
 pub mod Records
 pub mod HyperedgeLine
+pub mod Numbers
