@@ -1,15 +1,12 @@
 -- Which tests of a line pass, from what the code found. Assumes nothing.
-use mathlib.Core.Path.{_≡_, sym, ap₂}
-use mathlib.Core.Bool.{Bool, true, false}
-use Prim.Native.Nat.{ℕ, zero, suc, _+_, _-_, _≤_, _<_}
-use native.Mathlib.Omega.{arith}
+use mathlib.Core.Path.{_≡_}
+use mathlib.Core.Bool.{true, false}
+use Prim.Native.Nat.{ℕ, _-_, _≤_, _<_}
 use lib.Dec.{leb, ltb}
-use borrow.Author.Tests.{le-leb, lt-leb, leb-true, lt-ltb, ltb-true, eq-eqb, ne-eqb}
+use borrow.Author.Tests.{le-leb, lt-leb, eq-eqb, ne-eqb}
 use Rattle.lists.specs.Tests.{_and_}
-use Rattle.lists.proofs.Cases.{test-ext}
 use Rattle.layout.specs.Layout.{vertexLimit, hyperedgeLimit}
-use Rattle.frames.specs.Reading.{climbsTo, numberGood}
-use Rattle.reader.specs.Lines.{countsFit, numberFits, lowest}
+use Rattle.reader.specs.Lines.{countsFit, numberFits}
 
 module _ (n m x y : ℕ) where
   pub counts-many : 256 < n → false ≡ countsFit n m x y
@@ -48,24 +45,3 @@ module _ (x low high : ℕ) where
   pub number-rest : low ≤ x → leb x high ≡ numberFits x low high
   unfolding numberFits _and_
   number-rest h = rw (le-leb low x h)
-
--- ---- the number of record i of n
-
-module _ (number : ℕ → ℕ) where
-  climbs-low : (i : ℕ) → climbsTo number i ≡ leb (lowest number i) (number i)
-  unfolding climbsTo lowest
-  climbs-low zero = sym (le-leb 0 (number zero) (omega arith))
-  climbs-low (suc i) =
-      test-ext (ltb (number i) (number (suc i))) (leb (number i + 1) (number (suc i)))
-      (λ e. le-leb (number i + 1) (number (suc i)) (omega (arith, ltb-true (number i) (number (suc i)) e)))
-      (λ e. lt-ltb (number i) (number (suc i)) (omega (arith, leb-true (number i + 1) (number (suc i)) e)))
-
-  leaves-room : (x k next : ℕ) → k ≤ next → leb (x + k) next ≡ leb x (next - k)
-  leaves-room x k next h =
-      test-ext (leb (x + k) next) (leb x (next - k))
-      (λ e. le-leb x (next - k) (omega (arith, leb-true (x + k) next e)))
-      (λ e. le-leb (x + k) next (omega (arith, leb-true x (next - k) e)))
-
-  pub number-good : (n next i : ℕ) → n ≤ next → numberGood number n next i ≡ numberFits (number i) (lowest number i) (next - (n - i))
-  unfolding numberGood numberFits
-  number-good n next i h = ap₂ _and_ (climbs-low i) (leaves-room (number i) (n - i) next (omega arith))

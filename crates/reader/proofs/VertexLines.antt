@@ -25,7 +25,7 @@ use Rattle.frames.proofs.Laws.{put-length, put-append, put-as}
 use Rattle.frames.proofs.Lines.{put-none}
 use Rattle.reader.specs.Lines.{Sealed, lowest, numberFits, vertexFits}
 use Rattle.reader.specs.Passes.{Live, HeadStored, VerticesRead}
-use Rattle.reader.proofs.Fits.{number-good}
+use Rattle.reader.proofs.Numbers.{number-good, lowest-first, lowest-next}
 use Rattle.reader.proofs.HeadLine.{head-room, vertices-few, vertices-given}
 use Rattle.reader.proofs.Records.{vertex-framed}
 use Rattle.reader.proofs.Pasted.{put-before, put-in}
@@ -42,11 +42,11 @@ pub record VerticesSo (text before after : List ℕ) (low at to i : ℕ) : Type 
   pub put : Put verticesAt (i * vertexSize) (flat vertexWords (tab (vertexIn text) i)) before after to
 
 pub vertices-none : (text ws : List ℕ) → length ws ≡ size limit → 33 ≤ length text → VerticesSo text ws ws 0 33 4 0
-unfolding every lowest tab flat
+unfolding every tab flat
 vertices-none text ws l h = record {
   some = omega arith;
   good = refl;
-  least = refl;
+  least = lowest-first (vertexNumberIn text);
   place = refl;
   within = h;
   word = refl;
@@ -59,7 +59,7 @@ module _ (text : List ℕ) (n next : ℕ) (en : n ≡ verticesDue text) (ex : ne
   unfolding vertexGood vertexFits
   vertex-judged i =
       ap (λ (b : Bool). standsAt text (vertexPlace i) (vertexLine (vertexIn text i)) and b)
-      (ap₂ (λ (k x : ℕ). numberGood (vertexNumberIn text) k x i) (sym en) (sym ex) ∙ number-good (vertexNumberIn text) n next i given)
+      (ap₂ (λ (k x : ℕ). numberGood (vertexNumberIn text) k x i) (sym en) (sym ex) ∙ sym (number-good (vertexNumberIn text) n next i given))
 
   module _ {before after : List ℕ} {low at to i : ℕ} (v : VerticesSo text before after low at to i) (r : Bool) (e : r ≡ vertexFits text at low (next - (n - i))) where
     found : r ≡ vertexGood text i
@@ -76,11 +76,10 @@ module _ (text : List ℕ) (n next : ℕ) (en : n ≡ verticesDue text) (ex : ne
 
     pub vertices-more : {x to₂ : ℕ} {later : List ℕ} → not r ≡ false → i < n → x ≡ numberIn text at
         → Put to 2 (vertexWords (vertexOf (numberIn text at) (weightIn text at))) after later to₂ → VerticesSo text before later (x + 1) (at + 21) to₂ (i + 1)
-    unfolding lowest
     vertices-more q h exn f = record {
       some = omega arith;
       good = every-on (vertexGood text) n i r found (v .good) q;
-      least = rw (add-one i, exn, v .place);
+      least = lowest-next (vertexNumberIn text) i _ (exn ∙ ap (numberIn text) (v .place));
       place = omega (arith, v .place);
       within = omega (arith, vertex-framed text at low (next - (n - i)) r (v .within) e q .room);
       word = omega (arith, f .reached, v .word);

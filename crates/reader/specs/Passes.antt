@@ -1,12 +1,12 @@
 -- What stands in the words that are being read into, and what a pass over the lines of a kind has judged and stored. Assumes nothing.
-use Prim.Native.Nat.{ℕ, _+_, _*_, _≤_, _<_}
+use Prim.Native.Nat.{ℕ, _+_, _-_, _*_, _≤_, _<_}
 use mathlib.Core.Path.{_≡_}
 use mathlib.Core.Bool.{true, false, cond}
-use mathlib.Core.List.{List, [], _∷_}
-use lib.ListN.{length, getD}
+use mathlib.Core.List.{List, [], _∷_, _++_}
+use lib.ListN.{length, getD, replicate}
 use Rattle.lists.specs.Tests.{every}
-use Rattle.lists.specs.Lists.{tab, flat, Ascending}
-use Rattle.layout.specs.Layout.{limit, size, vertexLimit, vertexSize, verticesAt, vertexWord, nextVertexIn, nextHyperedgeIn, vertexCount, hyperedgeCount, vertexWords, words}
+use Rattle.lists.specs.Lists.{tab, flat, pad, Ascending}
+use Rattle.layout.specs.Layout.{limit, size, vertexLimit, hyperedgeLimit, vertexSize, recordSize, verticesAt, vertexWord, nextVertexIn, nextHyperedgeIn, vertexCount, hyperedgeCount, vertexWords, words}
 use Rattle.layout.specs.WellFormed.{vertexColumn}
 use Rattle.frames.specs.Put.{Put}
 use Rattle.frames.specs.Reading.{nextVertexOf, nextHyperedgeOf, verticesDue, hyperedgesDue, vertexPlace, vertexIn, contentOf, headGood, vertexGood, accepted, faultyLine}
@@ -38,6 +38,20 @@ pub record VerticesRead (text before after : List ℕ) (r : ℕ) : Type 0 where
   pub within : vertexPlace r ≤ length text
   pub put : Put verticesAt (r * vertexSize) (flat vertexWords (tab (vertexIn text) r)) before after (verticesAt + r * vertexSize)
   pub stopped : r < verticesDue text → vertexGood text r ≡ false
+
+-- k words of 0
+unfoldable pub blank : ℕ → List ℕ
+blank k = replicate k 0
+
+-- the head's words in words of 0
+pub record HeadMade (text ws : List ℕ) : Type 0 where
+  pub is : ws ≡ headWords text ++ blank (size limit - verticesAt)
+
+-- the head and every vertex are good, and their words stand in words of 0
+pub record VerticesMade (text ws : List ℕ) : Type 0 where
+  pub head : headGood text ≡ true
+  pub good : every (vertexGood text) (verticesDue text) ≡ true
+  pub is : ws ≡ (headWords text ++ pad (vertexLimit * vertexSize) (flat vertexWords (tab (vertexIn text) (verticesDue text)))) ++ blank (hyperedgeLimit * recordSize limit)
 
 -- the number of the faulty line, or 0 where the text is accepted
 unfoldable pub verdict : List ℕ → ℕ

@@ -8,15 +8,17 @@ ghost use Rattle.lists.specs.Lists.{all, tab, pad};
 ghost use Rattle.layout.specs.Content.{isLive};
 ghost use Rattle.layout.specs.Layout.{limit, recordSize, vertexWords, hyperedgeWords};
 ghost use Rattle.layout.specs.WellFormed.{vertexColumn};
+ghost use Rattle.layout.specs.Answers.{result};
 ghost use Rattle.frames.specs.Frames.{vertexOf};
 ghost use Rattle.frames.specs.Put.{Put};
-ghost use Rattle.frames.specs.Reading.{noValue, value, byteAt, shortAt, numberAt, numberIn, weightIn, countIn, memberIn, hyperedgeFrom, standsAt};
+ghost use Rattle.frames.specs.Reading.{noValue, value, byteAt, shortAt, numberAt, numberIn, weightIn, countIn, memberIn, hyperedgeFrom, standsAt, readResult};
 ghost use Rattle.reader.specs.Lines.{Valued, frameSum, lineEnd, sealedAt, Sealed, countsFit, numberFits, vertexFits};
 ghost use Rattle.reader.specs.Passes.{Live};
 use layout::Answer;
 use layout::Found;
 
 mod head;
+mod hyperedges;
 mod vertices;
 
 // How many values a byte has.
@@ -395,4 +397,17 @@ fn put_hyperedge(
     let a = put_word(words, to, number_at(values, text, at + NUMBER_AT));
     let b = put_word(words, a, number_at(values, text, at + WEIGHT_AT));
     put_list(words, b, values, text, at, k)
+}
+
+// ---- reading
+
+fn copy_words(t: &mut [u32], words: &[u32])
+    requires { ⌜ length (now t) ≡ length (now words) ⌝ }
+    ensures { λ _. ⌜ now (t .exit) ≡ now (words .entry) ⌝ }
+{
+    let mut i = 0;
+    while i < words.len() {
+        t[i] = words[i];
+        i += 1;
+    }
 }
