@@ -16,7 +16,7 @@ use Rattle.layout.specs.Content.{isLive, membersLive}
 use Rattle.layout.specs.Layout.{limit}
 use Rattle.layout.specs.WellFormed.{counted}
 use Rattle.frames.specs.Frames.{byteValues, numberBytes, hyperedgeFrame, hyperedgeLine, sealed}
-use Rattle.frames.specs.Reading.{byteAt, numberAt, numberIn, weightIn, countIn, memberIn, hyperedgeFrom, standsAt}
+use Rattle.frames.specs.Reading.{byteAt, numberIn, weightIn, countIn, memberIn, hyperedgeFrom, standsAt}
 use Rattle.frames.specs.Bytes.{bytesAt}
 use Rattle.frames.proofs.Parse.{bytes-at, bytes-append, bytes-front, number-bytes, members-bytes}
 use Rattle.reader.specs.Lines.{sealedAt, Sealed, numberFits}
@@ -138,18 +138,24 @@ module _ (text : List ℕ) (p low high : ℕ) (live : List ℕ) where
       let q = fits-parts f in
       hyperedge-sealed text p h (omega (arith, count-of (q .2) .1)) (q .0)
 
+  pub fits-framed : p ≤ length text → hyperedgeFits text p low high live ≡ true → Sealed text p (11 + countIn text p * 4)
+  fits-framed h f = sealed-is text p (11 + countIn text p * 4) (fits-sealed h f .0)
+
+  pub fits-counted : hyperedgeFits text p low high live ≡ true → (0 < countIn text p) × (countIn text p ≤ limit)
+  fits-counted f = count-of (fits-parts f .2)
+
   unless : (hyperedgeFits text p low high live ≡ true → ⊥) → false ≡ hyperedgeFits text p low high live
   unless n = on (hyperedgeFits text p low high live) (λ f. absurd (n f)) (λ f. sym f)
 
   pub fits-short : p ≤ length text → length text - p < 23 → false ≡ hyperedgeFits text p low high live
-  fits-short h l = unless (λ f. omega (arith, sealed-is text p (11 + countIn text p * 4) (fits-sealed h f .0) .room))
+  fits-short h l = unless (λ f. omega (arith, fits-framed h f .room))
 
   module _ (k : ℕ) (e : k ≡ countIn text p) where
     pub fits-empty : k ≡ 0 → false ≡ hyperedgeFits text p low high live
-    fits-empty z = unless (λ f. omega (arith, count-of (fits-parts f .2) .0))
+    fits-empty z = unless (λ f. omega (arith, fits-counted f .0))
 
     pub fits-many : 32 < k → false ≡ hyperedgeFits text p low high live
-    fits-many m = unless (λ f. omega (arith, count-of (fits-parts f .2) .1))
+    fits-many m = unless (λ f. omega (arith, fits-counted f .1))
 
     pub fits-unsealed : (r : Bool) → p ≤ length text → r ≡ sealedAt text p (11 + k * 4) → not r ≡ true → false ≡ hyperedgeFits text p low high live
     fits-unsealed r h q n = unless (λ f. true≢false (sym (fits-sealed h f .0) ∙ ap (λ (x : ℕ). sealedAt text p (11 + x * 4)) (sym e) ∙ sym q ∙ not-true r n))

@@ -13,3 +13,4 @@ pub mod VertexLines
 pub mod Verdict
 pub mod Made
 pub mod Texts
+pub mod HyperedgeLines

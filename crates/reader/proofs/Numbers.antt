@@ -1,12 +1,10 @@
 -- The numbers of records, one after the other: from the least that may come to the greatest that leaves room for the rest. Assumes nothing.
 use mathlib.Core.Path.{_≡_, refl}
-use mathlib.Core.Bool.{Bool}
 use Prim.Native.Nat.{ℕ, zero, suc, _+_, _-_, _≤_, _<_}
 use native.Mathlib.Numerals.{add-one}
 use native.Mathlib.Omega.{arith}
 use lib.Dec.{leb, ltb}
 use borrow.Author.Tests.{le-leb, leb-true, lt-ltb, ltb-true}
-use Rattle.lists.specs.Tests.{_and_}
 use Rattle.lists.proofs.Cases.{test-ext}
 use Rattle.frames.specs.Reading.{climbsTo, numberGood}
 use Rattle.reader.specs.Lines.{lowest, numberFits}

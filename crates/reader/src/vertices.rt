@@ -13,9 +13,9 @@ use crate::vertex_fits;
 use crate::wide_word;
 
 // The digits of a head line and of a vertex line, each with its line feed.
-const HEAD_LENGTH: usize = 33;
+pub const HEAD_LENGTH: usize = 33;
 
-const VERTEX_LENGTH: usize = 21;
+pub const VERTEX_LENGTH: usize = 21;
 
 // How many of the n vertices are good, one after the other; each is stored. next is the next vertex number.
 fn vertices_from(
