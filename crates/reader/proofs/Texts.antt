@@ -20,16 +20,16 @@ use Rattle.frames.proofs.Laws.{put-length}
 use Rattle.reader.specs.Hyperedges.{VerticesStored, HyperedgesRead}
 use Rattle.reader.specs.Passes.{headWords, blank, HeadStored, HeadMade, VerticesRead, VerticesMade, verdict, TextRead}
 use Rattle.reader.proofs.HeadLine.{head-stored, vertices-few, hyperedges-few}
-use Rattle.reader.proofs.VertexLines.{vertices-head, vertices-live, column-live}
+use Rattle.reader.proofs.VertexLines.{stored-due, vertices-head, vertices-live, column-live}
 use Rattle.reader.proofs.Verdict.{verdict-head, verdict-vertex, verdict-hyperedge, verdict-on, verdict-none}
 use Rattle.reader.proofs.Made.{length-blank, head-made, vertices-made, hyperedges-made}
 
 -- ---- the head
 
-module _ (text : List ℕ) where
-  pub blank-sized : {ws : List ℕ} → ws ≡ blank (size limit) → length ws ≡ size limit
-  blank-sized e = ap length e ∙ length-blank (size limit)
+pub blank-sized : {ws : List ℕ} → ws ≡ blank (size limit) → length ws ≡ size limit
+blank-sized e = ap length e ∙ length-blank (size limit)
 
+module _ (text : List ℕ) where
   pub text-headless : {ws : List ℕ} (r : Bool) → ws ≡ blank (size limit) → r ≡ headGood text → not r ≡ true → TextRead text ws 1
   text-headless r b e n = record { sized = blank-sized b; judged = verdict-head text r e n; made = λ z. absurd (omega arith) }
 
@@ -44,7 +44,7 @@ module _ (text : List ℕ) where
 
 module _ (text a b : List ℕ) (n i : ℕ) (h : HeadStored text a) (en : n ≡ vertexCount a) (v : VerticesRead text a b i) where
   due : n ≡ verticesDue text
-  due = en ∙ h .vertices
+  due = stored-due h n en
 
   pub text-vertex-bad : i < n → TextRead text b (2 + i)
   text-vertex-bad l =

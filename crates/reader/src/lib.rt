@@ -19,6 +19,7 @@ use layout::Found;
 
 mod head;
 mod hyperedges;
+mod text;
 mod vertices;
 
 // How many values a byte has.
@@ -410,4 +411,20 @@ fn copy_words(t: &mut [u32], words: &[u32])
         t[i] = words[i];
         i += 1;
     }
+}
+
+// Reads frame text into a table: 12 with the first line that no written text could have there, which changes no word.
+pub fn read_frames(t: &mut [u32], text: &[u8]) -> Answer
+    ensures { λ r. ⌜ result r (now (t .exit)) ≡ readResult (now (text .entry)) (now (t .entry)) ⌝ }
+{
+    if t.len() != layout::SIZE {
+        return Answer::NotWellFormed;
+    }
+    let mut words = [0u32; layout::SIZE];
+    let line = text::read_text(&mut words, text);
+    if 0 < line {
+        return Answer::BadText(line);
+    }
+    copy_words(t, &words);
+    Answer::Done(0)
 }
