@@ -1,21 +1,20 @@
 -- A text read: what each way through the code has judged and made, and what the read then answers. Assumes nothing.
-use mathlib.Core.Path.{_≡_, refl, sym, ap, _∙_}
+use mathlib.Core.Path.{_≡_, sym, ap, _∙_}
 use mathlib.Core.Bool.{Bool, true, false, not, cond}
 use mathlib.Core.List.{List}
-use Prim.Native.Nat.{ℕ, suc, _+_, _*_, _≤_, _<_}
+use Prim.Native.Nat.{ℕ, suc, _+_, _≤_, _<_}
 use native.Mathlib.Nat.{le-antisymm}
 use native.Mathlib.Omega.{arith}
 use lib.ListN.{length, getD, set, length-set}
 use lib.Seq.{getD-set-same, getD-set-other, ext-getD}
 use borrow.Author.Tests.{eq-eqb, ne-eqb, not-false}
 use Rattle.lists.specs.Tests.{every}
-use Rattle.lists.specs.Lists.{tab, flat}
 use Rattle.lists.proofs.Cases.{on, on-same}
 use Rattle.layout.specs.declared.Answer.the-variants.{Done, NotWellFormed, BadText}
-use Rattle.layout.specs.Layout.{limit, size, vertexLimit, vertexSize, vertexCount, hyperedgeCount, vertexWords, words}
+use Rattle.layout.specs.Layout.{limit, size, vertexCount, hyperedgeCount}
 use Rattle.layout.specs.Answers.{result}
 use Rattle.frames.specs.Put.{Put}
-use Rattle.frames.specs.Reading.{verticesDue, hyperedgesDue, hyperedgePlace, vertexIn, contentOf, headGood, vertexGood, hyperedgeGood, goodLines, accepted, faultyLine, readResult}
+use Rattle.frames.specs.Reading.{verticesDue, hyperedgesDue, hyperedgePlace, headGood, hyperedgeGood, goodLines, accepted, faultyLine, readResult}
 use Rattle.frames.proofs.Laws.{put-length}
 use Rattle.reader.specs.Hyperedges.{VerticesStored, HyperedgesRead}
 use Rattle.reader.specs.Passes.{headWords, blank, HeadStored, HeadMade, VerticesRead, VerticesMade, verdict, TextRead}

@@ -1,29 +1,29 @@
 -- The vertex lines: what a pass over them has judged and stored, and what then stands in the words. Assumes nothing.
 use mathlib.Core.Path.{_≡_, refl, sym, ap, ap₂, _∙_}
 use mathlib.Core.Bool.{Bool, true, false, not}
-use mathlib.Core.List.{List, [], _∷_, _++_}
+use mathlib.Core.List.{List}
 use Prim.Native.Nat.{ℕ, zero, suc, _+_, _-_, _*_, _≤_, _<_}
 use native.Mathlib.Nat.{add-zero, le-antisymm}
 use native.Mathlib.Numerals.{add-one}
 use native.Mathlib.Omega.{arith}
 use lib.ListN.{length, getD}
-use borrow.Author.Tests.{ltb-true, leb-true, not-true, not-false}
+use borrow.Author.Tests.{ltb-true, leb-true, not-true}
 use Rattle.lists.specs.Tests.{_and_, every}
-use Rattle.lists.specs.Lists.{tab, flat, Ascending}
+use Rattle.lists.specs.Lists.{tab, flat}
 use Rattle.lists.proofs.Cases.{on-same, and-left, and-right}
 use Rattle.lists.proofs.Every.{every-at, every-on}
 use Rattle.lists.proofs.Tab.{tab-ext, tab-suc, length-tab, getD-tab, map-tab}
 use Rattle.lists.proofs.Flat.{flat-snoc, flat-at}
-use Rattle.layout.specs.Content.{Vertex, vertexNumber, liveVertices}
+use Rattle.layout.specs.Content.{vertexNumber, liveVertices}
 use Rattle.layout.specs.Layout.{limit, size, vertexLimit, vertexSize, verticesAt, vertexWord, nextVertexIn, vertexCount, vertexWords}
 use Rattle.layout.specs.WellFormed.{vertexColumn}
 use Rattle.layout.proofs.Back.{noVertex}
 use Rattle.frames.specs.Frames.{vertexOf, vertexLine}
 use Rattle.frames.specs.Put.{Put}
-use Rattle.frames.specs.Reading.{nextVertexOf, verticesDue, vertexPlace, numberIn, weightIn, vertexIn, vertexNumberIn, contentOf, climbsTo, numberGood, standsAt, headGood, vertexGood}
+use Rattle.frames.specs.Reading.{nextVertexOf, verticesDue, vertexPlace, numberIn, weightIn, vertexIn, vertexNumberIn, contentOf, climbsTo, numberGood, standsAt, vertexGood}
 use Rattle.frames.proofs.Laws.{put-length, put-append, put-as}
 use Rattle.frames.proofs.Lines.{put-none}
-use Rattle.reader.specs.Lines.{Sealed, lowest, numberFits, vertexFits}
+use Rattle.reader.specs.Lines.{lowest, vertexFits}
 use Rattle.reader.specs.Passes.{Live, HeadStored, VerticesRead}
 use Rattle.reader.proofs.Numbers.{number-good, lowest-first, lowest-next}
 use Rattle.reader.proofs.HeadLine.{head-room, vertices-few, vertices-given}
