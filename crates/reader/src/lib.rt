@@ -6,7 +6,7 @@ ghost use Prim.Native.Nat.{_+_, _*_, _<_, _≤_};
 ghost use lib.ListN.{length, replicate};
 ghost use Rattle.lists.specs.Lists.{all, tab, pad};
 ghost use Rattle.layout.specs.Content.{isLive};
-ghost use Rattle.layout.specs.Layout.{limit, recordSize, vertexWords, hyperedgeWords};
+ghost use Rattle.layout.specs.Layout.{limit, vertexLimit, size, recordSize, vertexWords, hyperedgeWords};
 ghost use Rattle.layout.specs.WellFormed.{vertexColumn};
 ghost use Rattle.layout.specs.Answers.{result};
 ghost use Rattle.frames.specs.Frames.{vertexOf};
@@ -266,7 +266,26 @@ fn sealed_vertex_fits(values: &[u16; 256], text: &[u8], at: usize, low: usize, h
     number_fits(number_at(values, text, at + NUMBER_AT), low, high)
 }
 
-// The vertex x is among those whose records stand in the words. Where as many are live as numbers were given, its number is its place.
+// Where x stands among the n vertices, if it does, by steps that do not wait for one another's outcome: a hint, of which nothing
+// more is promised.
+fn place_near(words: &[u32], n: usize, x: u32) -> usize
+    requires { ⌜ (length (now words) ≡ size limit) × (n ≤ vertexLimit) ⌝ }
+    ensures { λ r. ⌜ r ≤ n ⌝ }
+{
+    let mut p = 0;
+    let mut rest = n;
+    while 1 < rest {
+        let half = rest / 2;
+        if layout::vertex_number(words, p + half) <= x {
+            p += half;
+        }
+        rest -= half;
+    }
+    p
+}
+
+// The vertex x is among those whose records stand in the words. Where as many are live as numbers were given, its number is its
+// place; else it stands where the hint says, or a search decides.
 fn is_live(words: &[u32], x: usize) -> bool
     requires { ⌜ Live (now words) ⌝ }
     requires { ⌜ x < 4294967296 ⌝ }
@@ -275,6 +294,12 @@ fn is_live(words: &[u32], x: usize) -> bool
     let n = layout::vertex_count(words);
     if wide_word(layout::next_vertex(words)) == n {
         return x < n;
+    }
+    let p = place_near(words, n, x as u32);
+    if p < n {
+        if wide_word(layout::vertex_number(words, p)) == x {
+            return true;
+        }
     }
     let found = layout::find_number(words, layout::VERTICES_AT, layout::VERTEX_SIZE, n, x as u32);
     match found {
