@@ -13,7 +13,7 @@ ghost use Rattle.frames.specs.Frames.{vertexOf};
 ghost use Rattle.frames.specs.Put.{Put};
 ghost use Rattle.frames.specs.Reading.{noValue, value, byteAt, shortAt, numberAt, numberIn, weightIn, countIn, memberIn, hyperedgeFrom, standsAt, readResult};
 ghost use Rattle.reader.specs.Lines.{Valued, frameSum, lineEnd, sealedAt, Sealed, countsFit, numberFits, vertexFits};
-ghost use Rattle.reader.specs.Passes.{Live};
+ghost use Rattle.reader.specs.Passes.{Live, storedRead, answerOf};
 use layout::Answer;
 use layout::Found;
 
@@ -48,12 +48,6 @@ const MEMBERS_AT: usize = 20;
 
 // ---- digits
 
-fn wide(x: u8) -> usize
-    ensures { λ r. ⌜ r ≡ x ⌝ }
-{
-    x as usize
-}
-
 fn wide_value(x: u16) -> usize
     ensures { λ r. ⌜ r ≡ x ⌝ }
 {
@@ -67,8 +61,8 @@ fn value_table() -> [u16; 256]
     let mut values = [256u16; 256];
     let mut k = 0;
     while k < 16 {
-        let c = wide(frames::digit(k));
-        values[c] = k as u16;
+        let c = frames::digit(k);
+        values[c as usize] = k as u16;
         k += 1;
     }
     values
@@ -438,6 +432,27 @@ fn copy_words(t: &mut [u32], words: &[u32])
     }
 }
 
+// Copies the words where no line is faulty.
+fn store_read(t: &mut [u32], words: &[u32], line: usize)
+    requires { ⌜ length (now t) ≡ length (now words) ⌝ }
+    ensures { λ _. ⌜ now (t .exit) ≡ storedRead line (now (words .entry)) (now (t .entry)) ⌝ }
+{
+    if 0 < line {
+        return;
+    }
+    copy_words(t, words);
+}
+
+// The answer for the faulty line, or for none.
+fn answer_of(line: usize) -> Answer
+    ensures { λ r. ⌜ r ≡ answerOf line ⌝ }
+{
+    if line == 0 {
+        return Answer::Done(0);
+    }
+    Answer::BadText(line)
+}
+
 // Reads frame text into a table: 12 with the first line that no written text could have there, which changes no word.
 pub fn read_frames(t: &mut [u32], text: &[u8]) -> Answer
     ensures { λ r. ⌜ result r (now (t .exit)) ≡ readResult (now (text .entry)) (now (t .entry)) ⌝ }
@@ -447,9 +462,6 @@ pub fn read_frames(t: &mut [u32], text: &[u8]) -> Answer
     }
     let mut words = [0u32; layout::SIZE];
     let line = text::read_text(&mut words, text);
-    if 0 < line {
-        return Answer::BadText(line);
-    }
-    copy_words(t, &words);
-    Answer::Done(0)
+    store_read(t, &words, line);
+    answer_of(line)
 }
