@@ -60,3 +60,9 @@ round-trip ws lent f e len =
     let d : Held t = held-of t (read-holdable limit ws e) in
     let w : Worded t = read-worded ws f in
     rw (eq-eqb (length lent) (size limit) len, text-accepted t d w, text-content t d w, words-read limit ws (shaped-of limit ws (and-left _ _ e)))
+
+-- the content that stands in it is that of the table that it was written from
+pub written-content : (text : List ℕ) (w : Written text) → contentOf text ≡ read limit (w .table)
+written-content text w =
+    let t : Table = read limit (w .table) in
+    ap contentOf (sym (w .gives)) ∙ text-content t (held-of t (read-holdable limit (w .table) (w .formed))) (read-worded (w .table) (w .fits))

@@ -12,7 +12,7 @@ fn show(name: &[u8]) {
     let mut text = io::large_buffer();
     let n = io::read_full(fd, &mut text);
     libc::close(fd);
-    sheet::print_sheet(STDOUT_FILENO, STDOUT_FILENO, &text[..n]);
+    sort_sheet::print_sheet(STDOUT_FILENO, STDOUT_FILENO, &text[..n]);
 }
 
 fn main() {

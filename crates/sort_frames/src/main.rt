@@ -7,5 +7,5 @@ use libc::STDOUT_FILENO;
 fn main() {
     let mut text = io::large_buffer();
     let n = io::read_full(STDIN_FILENO, &mut text);
-    sheet::print_sheet(STDOUT_FILENO, STDERR_FILENO, &text[..n]);
+    sort_sheet::print_sheet(STDOUT_FILENO, STDERR_FILENO, &text[..n]);
 }
