@@ -84,6 +84,8 @@ use Rattle.walk.proofs.random_walk.Kinds as random-walk
 use Rattle.walk.proofs.random_walk.Reads as random-walk-reads
 use Rattle.frames.proofs.write_frames.Kinds as write-frames
 use Rattle.frames.proofs.write_frames.Reads as write-frames-reads
+use Rattle.reader.proofs.read_frames.Kinds as read-frames
+use Rattle.reader.proofs.read_frames.Reads as read-frames-reads
 
 -- ---- edits
 
@@ -220,3 +222,6 @@ random-walk-agrees κs args a b x y p q = agree _ p q
 
 pub write-frames-agrees : Agrees 2 write-frames.ps write-frames.r write-frames-reads.Post (λ _ x. now (x .1 .0))
 write-frames-agrees κs args a b x y p q = agree _ p q
+
+pub read-frames-agrees : Agrees 2 read-frames.ps read-frames.r read-frames-reads.Post (λ _ x. now (x .0))
+read-frames-agrees κs args a b x y p q = agree _ p q
