@@ -259,20 +259,19 @@ fn sealed_vertex_fits(values: &[u16; 256], text: &[u8], at: usize, low: usize, h
     number_fits(number_at(values, text, at + NUMBER_AT), low, high)
 }
 
-// Where x stands among the n vertices, if it does, by steps that do not wait for one another's outcome: a hint, of which nothing
-// more is promised.
-fn place_near(words: &[u32], n: usize, x: u32) -> usize
-    requires { ⌜ (length (now words) ≡ size limit) × (n ≤ vertexLimit) ⌝ }
-    ensures { λ r. ⌜ r ≤ n ⌝ }
+// Where x stands among the vertices, if it does, by eight steps that do not wait for one another's outcome: a hint, of which nothing
+// more is promised. No step looks at the first record, so a number of 0 is that of an unused one, and less 1 it is above all others.
+fn place_near(words: &[u32], x: u32) -> usize
+    requires { ⌜ length (now words) ≡ size limit ⌝ }
+    ensures { λ r. ⌜ r < vertexLimit ⌝ }
 {
     let mut p = 0;
-    let mut rest = n;
-    while 1 < rest {
-        let half = rest / 2;
-        if layout::vertex_number(words, p + half) <= x {
+    let mut half = 128;
+    while 0 < half {
+        if std::num::wrapping_sub_u32(layout::vertex_number(words, p + half), 1) < x {
             p += half;
         }
-        rest -= half;
+        half /= 2;
     }
     p
 }
@@ -288,7 +287,7 @@ fn is_live(words: &[u32], x: usize) -> bool
     if wide_word(layout::next_vertex(words)) == n {
         return x < n;
     }
-    let p = place_near(words, n, x as u32);
+    let p = place_near(words, x as u32);
     if p < n {
         if wide_word(layout::vertex_number(words, p)) == x {
             return true;
