@@ -7,11 +7,11 @@ use native.Mathlib.Nat.{le-antisymm}
 use native.Mathlib.Numerals.{add-one}
 use native.Mathlib.Omega.{arith}
 use lib.Dec.{ltb}
-use lib.ListN.{length, getD}
+use lib.ListN.{length, getD, drop}
 use borrow.Author.Tests.{not-true, not-false}
 use Rattle.lists.specs.Lists.{all, tab, Ascending}
 use Rattle.lists.proofs.Cases.{on, clash, and-both}
-use Rattle.lists.proofs.All.{all-at, all-snoc}
+use Rattle.lists.proofs.All.{all-at, all-snoc, all-on, all-no, all-end}
 use Rattle.lists.proofs.Tab.{length-tab, getD-tab, tab-suc}
 use Rattle.layout.specs.declared.Found.{Found}
 use Rattle.layout.specs.declared.Found.the-variants.{At, Nothing}
@@ -59,3 +59,16 @@ module _ (f : ℕ → Bool) (g : ℕ → ℕ) where
 
   pub members-end : (i k : ℕ) → i ≤ k → k ≤ i → all f (tab g i) ≡ true → true ≡ all f (tab g k)
   members-end i k h l a = sym (ap (λ (n : ℕ). all f (tab g n)) (sym (le-antisymm h l)) ∙ a)
+
+-- ---- a list's members, one after the other: x is the one at i, and r what the code found of it
+
+module _ (f : ℕ → Bool) (xs : List ℕ) (i : ℕ) (inv : all f (drop i xs) ≡ all f xs) where
+  module _ (x : ℕ) (r : Bool) (e : x ≡ getD xs i 0) (q : r ≡ f x) (h : i < length xs) where
+    pub list-on : not r ≡ false → all f (drop (i + 1) xs) ≡ all f xs
+    list-on n = all-on f xs i (all f xs) inv 0 r (q ∙ ap f e) h n
+
+    pub list-no : not r ≡ true → false ≡ all f xs
+    list-no n = all-no f xs i (all f xs) inv 0 r (q ∙ ap f e) h n
+
+  pub list-end : length xs ≤ i → true ≡ all f xs
+  list-end h = all-end f xs i (all f xs) inv h
