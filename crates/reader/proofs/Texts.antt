@@ -10,6 +10,7 @@ use lib.Seq.{getD-set-same, getD-set-other, ext-getD}
 use borrow.Author.Tests.{eq-eqb, ne-eqb, not-false}
 use Rattle.lists.specs.Tests.{every}
 use Rattle.lists.proofs.Cases.{on, on-same}
+use Rattle.layout.specs.declared.Answer.{Answer}
 use Rattle.layout.specs.declared.Answer.the-variants.{Done, NotWellFormed, BadText}
 use Rattle.layout.specs.Layout.{limit, size, vertexCount, hyperedgeCount}
 use Rattle.layout.specs.Answers.{result}
@@ -17,7 +18,7 @@ use Rattle.frames.specs.Put.{Put}
 use Rattle.frames.specs.Reading.{verticesDue, hyperedgesDue, hyperedgePlace, headGood, hyperedgeGood, goodLines, accepted, faultyLine, readResult}
 use Rattle.frames.proofs.Laws.{put-length}
 use Rattle.reader.specs.Hyperedges.{VerticesStored, HyperedgesRead}
-use Rattle.reader.specs.Passes.{headWords, blank, HeadStored, HeadMade, VerticesRead, VerticesMade, verdict, TextRead}
+use Rattle.reader.specs.Passes.{headWords, blank, HeadStored, HeadMade, VerticesRead, VerticesMade, verdict, TextRead, storedRead, answerOf}
 use Rattle.reader.proofs.HeadLine.{head-stored, vertices-few, hyperedges-few}
 use Rattle.reader.proofs.VertexLines.{stored-due, vertices-head, vertices-live, column-live}
 use Rattle.reader.proofs.Verdict.{verdict-head, verdict-vertex, verdict-hyperedge, verdict-on, verdict-none}
@@ -151,14 +152,29 @@ module _ (text lent : List ℕ) where
         (λ e. let z : line ≡ 0 = rw e at j in absurd (omega arith))
         (λ e. (e, rw e at j))
 
-    pub answer-bad : 0 < line → result (BadText line) lent ≡ readResult text lent
-    unfolding readResult
-    answer-bad h = rw (eq-eqb (length lent) (size limit) sz, refused h .0, refused h .1)
-
-    pub answer-good : {out : List ℕ} → line ≤ 0 → out ≡ ws → result (Done 0) out ≡ readResult text lent
-    unfolding readResult verdict faultyLine
-    answer-good l e =
+    pub answer-read : {a : Answer} {out : List ℕ} → out ≡ storedRead line ws lent → a ≡ answerOf line → result a out ≡ readResult text lent
+    unfolding readResult verdict faultyLine storedRead answerOf
+    answer-read o f =
         let j : line ≡ cond (accepted text) 0 (suc (goodLines text)) = r .judged in
-        on (accepted text)
-        (λ a. rw (eq-eqb (length lent) (size limit) sz, a, e, r .made (omega arith)))
-        (λ a. let z : line ≡ suc (goodLines text) = rw a at j in absurd (omega arith))
+        on-same line 0
+        (λ z. on (accepted text)
+        (λ a. rw (o, f, eq-eqb line 0 z, eq-eqb (length lent) (size limit) sz, a, r .made z))
+        (λ a. let k : line ≡ suc (goodLines text) = rw a at j in absurd (omega arith)))
+        (λ n. let h = refused (omega arith) in rw (o, f, ne-eqb line 0 n, eq-eqb (length lent) (size limit) sz, h .0, h .1))
+
+module _ (line : ℕ) where
+  pub stored-none : (ws lent : List ℕ) → 0 < line → lent ≡ storedRead line ws lent
+  unfolding storedRead
+  stored-none ws lent h = rw (ne-eqb line 0 (λ e. absurd (omega arith)))
+
+  pub stored-words : (ws lent out : List ℕ) → line ≤ 0 → out ≡ ws → out ≡ storedRead line ws lent
+  unfolding storedRead
+  stored-words ws lent out h e = rw (eq-eqb line 0 (omega arith)) e
+
+  pub answer-none : line ≡ 0 → Done 0 ≡ answerOf line
+  unfolding answerOf
+  answer-none e = rw (eq-eqb line 0 e)
+
+  pub answer-line : (line ≡ 0 → ⊥) → BadText line ≡ answerOf line
+  unfolding answerOf
+  answer-line n = rw (ne-eqb line 0 n)

@@ -5,7 +5,7 @@ use Prim.Native.Nat.{ℕ, zero, suc, _+_, _-_, _*_, _≤_, _<_}
 use native.Mathlib.Nat.{le-antisymm}
 use native.Mathlib.Numerals.{add-one}
 use native.Mathlib.Omega.{arith}
-use lib.ListN.{length, set, take, drop, replicate, replicate-append-replicate}
+use lib.ListN.{length, set, take, drop, replicate}
 use lib.Seq.{set-split, take-at}
 use Rattle.lists.specs.Lists.{tab, pad, over}
 use Rattle.lists.proofs.Flat.{length-pad}
@@ -22,16 +22,6 @@ use Rattle.reader.proofs.Frame.{number-word-at}
 pub word-put : (to x : ℕ) (ws : List ℕ) → to < length ws → Put to 1 (x ∷ []) ws (set ws to x) (to + 1)
 unfolding pasted
 word-put to x ws h = record { sized = refl; fits = omega arith; reached = refl; wrote = set-split ws to x h ∙ ap (λ (n : ℕ). take to ws ++ (x ∷ drop n ws)) (sym (add-one to)) }
-
--- k words of 0: i of them
-pub zeros-none : (to : ℕ) (ws : List ℕ) → to ≤ length ws → Put to 0 (replicate 0 0) ws ws to
-zeros-none to ws h = put-none to ws h
-
-pub zeros-more : {to i p q : ℕ} {a b c : List ℕ} → Put to i (replicate i 0) a b p → Put p 1 (0 ∷ []) b c q → Put to (i + 1) (replicate (i + 1) 0) a c q
-zeros-more {i = i} f g = put-as refl (replicate-append-replicate {A = ℕ} i 1 0) (put-append f g)
-
-pub zeros-end : {to i k p : ℕ} {a b : List ℕ} → i ≤ k → k ≤ i → Put to i (replicate i 0) a b p → Put to k (replicate k 0) a b p
-zeros-end h l f = rw (← le-antisymm h l) f
 
 -- k numbers by place: i of them
 module _ (f : ℕ → ℕ) where
@@ -77,16 +67,6 @@ module _ (text : List ℕ) (p x w : ℕ) (ex : x ≡ numberIn text p) (ew : w �
       put-as refl
       (rw (ex, ew, ek, length-tab (memberIn text p) (countIn text p)))
       (put-append f (put-append g h))
-
-pub list-words-put : (f : ℕ → ℕ) {to a b c k : ℕ} {q r s t : List ℕ} → k ≤ limit
-    → Put to 1 (k ∷ []) q r a → Put a k (tab f k) r s b → Put b (limit - k) (replicate {A = ℕ} (limit - k) 0) s t c
-    → Put to (1 + limit) (k ∷ pad limit (tab f k)) q t c
-list-words-put f {k = k} le g h i =
-    put-as (omega arith) (rw (length-tab f k)) (put-append g (put-append h i))
-
--- behind the number and the weight there is room for the list
-pub list-room : {to a b : ℕ} {xs ys q r s : List ℕ} → to + recordSize limit ≤ length q → Put to 1 xs q r a → Put a 1 ys r s b → b + (1 + limit) ≤ length s
-list-room h f g = omega (arith, f .reached, g .reached, put-length f, put-length g)
 
 -- ---- a record of a list that was made first
 

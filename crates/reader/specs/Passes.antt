@@ -3,9 +3,12 @@ use Prim.Native.Nat.{ℕ, _+_, _-_, _*_, _≤_, _<_}
 use mathlib.Core.Path.{_≡_}
 use mathlib.Core.Bool.{true, false, cond}
 use mathlib.Core.List.{List, [], _∷_, _++_}
+use lib.Dec.{eqb}
 use lib.ListN.{length, getD, replicate}
 use Rattle.lists.specs.Tests.{every}
 use Rattle.lists.specs.Lists.{tab, flat, pad, Ascending}
+use Rattle.layout.specs.declared.Answer.{Answer}
+use Rattle.layout.specs.declared.Answer.the-variants.{Done, BadText}
 use Rattle.layout.specs.Layout.{limit, size, vertexLimit, hyperedgeLimit, vertexSize, recordSize, verticesAt, vertexWord, nextVertexIn, nextHyperedgeIn, vertexCount, hyperedgeCount, vertexWords, words}
 use Rattle.layout.specs.WellFormed.{vertexColumn}
 use Rattle.frames.specs.Put.{Put}
@@ -62,3 +65,11 @@ pub record TextRead (text after : List ℕ) (r : ℕ) : Type 0 where
   pub sized : length after ≡ size limit
   pub judged : r ≡ verdict text
   pub made : r ≡ 0 → after ≡ words limit (contentOf text)
+
+-- the words that were read where no line is faulty, else the lent ones
+unfoldable pub storedRead : ℕ → List ℕ → List ℕ → List ℕ
+storedRead line ws lent = cond (eqb line 0) ws lent
+
+-- done, or 12 with the faulty line
+unfoldable pub answerOf : ℕ → Answer
+answerOf line = cond (eqb line 0) (Done 0) (BadText line)

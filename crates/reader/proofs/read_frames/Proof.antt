@@ -1,6 +1,6 @@
 -- `reader::read_frames` meets its contract. Assumes nothing.
 use Rattle.reader.proofs.Made.{blank-is}
-use Rattle.reader.proofs.Texts.{answer-unsized, answer-bad, answer-good}
+use Rattle.reader.proofs.Texts.{answer-unsized, answer-read}
 use borrow.Author.Needs.{needs}
 use Rattle.reader.proofs.read_frames.Statement.{statement}
 use Rattle.reader.proofs.read_frames.Tie as tie
@@ -14,20 +14,20 @@ slice-aggregate-read-text c = search needs
 read-text-requires : tie.Need-read-text-requires
 read-text-requires c κs = blank-is 7236
 
-returns-2 : tie.Need-returns-2
-returns-2 c = search answer-bad
+slice-aggregate-store-read : tie.Need-slice-aggregate-store-read
+slice-aggregate-store-read c = search needs
 
-slice-aggregate-copy-words : tie.Need-slice-aggregate-copy-words
-slice-aggregate-copy-words c = search needs
+store-read-requires : tie.Need-store-read-requires
+store-read-requires c κs = search needs
 
-copy-words-requires : tie.Need-copy-words-requires
-copy-words-requires c κs = search needs
+answer-of-requires : tie.Need-answer-of-requires
+answer-of-requires c κs = search needs
 
 same-length : tie.Need-same-length
 same-length c = search needs
 
-returns-3 : tie.Need-returns-3
-returns-3 c = search answer-good
+returns-2 : tie.Need-returns-2
+returns-2 c = search answer-read
 
 pub read-frames-spec : {M : Type 1} → statement M
 read-frames-spec =
@@ -36,8 +36,8 @@ read-frames-spec =
     returns
     slice-aggregate-read-text
     read-text-requires
-    returns-2
-    slice-aggregate-copy-words
-    copy-words-requires
+    slice-aggregate-store-read
+    store-read-requires
+    answer-of-requires
     same-length
-    returns-3)
+    returns-2)
