@@ -2,15 +2,15 @@
 ghost use mathlib.Core.Path.{_≡_};
 ghost use mathlib.Core.List.{[], _∷_};
 ghost use Prim.Native.Nat.{_+_, _*_, _<_, _≤_};
-ghost use lib.ListN.{length, replicate};
-ghost use Rattle.lists.specs.Lists.{all, tab, pad};
+ghost use lib.ListN.{length};
+ghost use Rattle.lists.specs.Lists.{tab};
 ghost use Rattle.layout.specs.Content.{isLive};
-ghost use Rattle.layout.specs.Layout.{limit, vertexLimit, size, recordSize, vertexWords, hyperedgeWords};
+ghost use Rattle.layout.specs.Layout.{limit, vertexLimit, size, vertexWords};
 ghost use Rattle.layout.specs.WellFormed.{vertexColumn};
 ghost use Rattle.layout.specs.Answers.{result};
 ghost use Rattle.frames.specs.Frames.{vertexOf};
 ghost use Rattle.frames.specs.Put.{Put};
-ghost use Rattle.frames.specs.Reading.{noValue, value, byteAt, shortAt, numberAt, numberIn, weightIn, countIn, memberIn, hyperedgeFrom, standsAt, readResult};
+ghost use Rattle.frames.specs.Reading.{noValue, value, byteAt, shortAt, numberAt, numberIn, weightIn, memberIn, standsAt, readResult};
 ghost use Rattle.reader.specs.Lines.{Valued, frameSum, lineEnd, sealedAt, Sealed, countsFit, numberFits, vertexFits};
 ghost use Rattle.reader.specs.Passes.{Live, storedRead, answerOf};
 use layout::Answer;
@@ -300,24 +300,6 @@ fn is_live(words: &[u32], x: usize) -> bool
     }
 }
 
-// Each of the k members of the hyperedge line at the place is live.
-fn members_live(values: &[u16; 256], text: &[u8], at: usize, k: usize, words: &[u32]) -> bool
-    requires { ⌜ Valued (now values) ⌝ }
-    requires { ⌜ Live (now words) ⌝ }
-    requires { ⌜ Sealed (now text) at (11 + k * 4) × (k ≤ limit) ⌝ }
-    ensures { λ r. ⌜ r ≡ all (isLive (vertexColumn (now (words .entry)))) (tab (memberIn (now (text .entry)) at) k) ⌝ }
-{
-    let mut i = 0;
-    while i < k {
-        let x = number_at(values, text, at + MEMBERS_AT + i * MEMBER_LENGTH);
-        if !is_live(words, x) {
-            return false;
-        }
-        i += 1;
-    }
-    true
-}
-
 // ---- words
 
 fn wide_word(x: u32) -> usize
@@ -364,57 +346,6 @@ fn put_members(
         i += 1;
     }
     next
-}
-
-fn put_zeros(words: &mut [u32], to: usize, k: usize) -> usize
-    requires { ⌜ to + k ≤ length (now words) ⌝ }
-    ensures { λ r. ⌜ Put to k (replicate k 0) (now (words .entry)) (now (words .exit)) r ⌝ }
-{
-    let mut next = to;
-    let mut i = 0;
-    while i < k {
-        next = put_word(words, next, 0);
-        i += 1;
-    }
-    next
-}
-
-// Stores the member list of the hyperedge line: its count, its members, and 0 in the words behind them.
-fn put_list(
-    words: &mut [u32],
-    to: usize,
-    values: &[u16; 256],
-    text: &[u8],
-    at: usize,
-    k: usize,
-) -> usize
-    requires { ⌜ Valued (now values) ⌝ }
-    requires { ⌜ Sealed (now text) at (11 + k * 4) × (k ≤ limit) ⌝ }
-    requires { ⌜ to + (1 + limit) ≤ length (now words) ⌝ }
-    ensures { λ r. ⌜ Put to (1 + limit) (k ∷ pad limit (tab (memberIn (now (text .entry)) at) k)) (now (words .entry)) (now (words .exit)) r ⌝ }
-{
-    let a = put_word(words, to, k);
-    let b = put_members(words, a, values, text, at, k);
-    put_zeros(words, b, layout::MEMBER_LIMIT - k)
-}
-
-// Stores the hyperedge whose line stands at the place.
-fn put_hyperedge(
-    words: &mut [u32],
-    to: usize,
-    values: &[u16; 256],
-    text: &[u8],
-    at: usize,
-    k: usize,
-) -> usize
-    requires { ⌜ Valued (now values) ⌝ }
-    requires { ⌜ Sealed (now text) at (11 + k * 4) × ((k ≡ countIn (now text) at) × (k ≤ limit)) ⌝ }
-    requires { ⌜ to + recordSize limit ≤ length (now words) ⌝ }
-    ensures { λ r. ⌜ Put to (recordSize limit) (hyperedgeWords limit (hyperedgeFrom (now (text .entry)) at)) (now (words .entry)) (now (words .exit)) r ⌝ }
-{
-    let a = put_word(words, to, number_at(values, text, at + NUMBER_AT));
-    let b = put_word(words, a, number_at(values, text, at + WEIGHT_AT));
-    put_list(words, b, values, text, at, k)
 }
 
 // ---- reading
