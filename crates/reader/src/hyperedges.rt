@@ -19,12 +19,6 @@ pub struct Walked {
     pub at: usize,
 }
 
-fn wide_number(x: u32) -> usize
-    ensures { λ r. ⌜ (r ≡ x) × (r < 4294967296) ⌝ }
-{
-    x as usize
-}
-
 // Every vertex of the list is live.
 fn list_live(words: &[u32], list: &[u32]) -> bool
     requires { ⌜ Live (now words) ⌝ }
@@ -32,7 +26,7 @@ fn list_live(words: &[u32], list: &[u32]) -> bool
 {
     let mut i = 0;
     while i < list.len() {
-        if !crate::is_live(words, wide_number(list[i])) {
+        if !crate::is_live(words, crate::wide_word(list[i])) {
             return false;
         }
         i += 1;

@@ -303,7 +303,7 @@ fn is_live(words: &[u32], x: usize) -> bool
 // ---- words
 
 fn wide_word(x: u32) -> usize
-    ensures { λ r. ⌜ r ≡ x ⌝ }
+    ensures { λ r. ⌜ (r ≡ x) × (r < 4294967296) ⌝ }
 {
     x as usize
 }

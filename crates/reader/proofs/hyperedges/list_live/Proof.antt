@@ -19,14 +19,14 @@ abbrev μ-loop : tie.MeasureT-loop
 loop-holds : tie.Need-loop-holds Inv-loop μ-loop
 loop-holds c = (search needs, refl)
 
-mul-wide-number : tie.Need-mul-wide-number Inv-loop μ-loop
-mul-wide-number c = search needs
+mul-wide-word : tie.Need-mul-wide-word Inv-loop μ-loop
+mul-wide-word c = search needs
 
-shared-slice-read-wide-number : tie.Need-shared-slice-read-wide-number Inv-loop μ-loop
-shared-slice-read-wide-number c = search needs
+shared-slice-read-wide-word : tie.Need-shared-slice-read-wide-word Inv-loop μ-loop
+shared-slice-read-wide-word c = search needs
 
-wide-number-requires : tie.Need-wide-number-requires Inv-loop μ-loop
-wide-number-requires c κs = search needs
+wide-word-requires : tie.Need-wide-word-requires Inv-loop μ-loop
+wide-word-requires c κs = search needs
 
 is-live-requires : tie.Need-is-live-requires Inv-loop μ-loop
 is-live-requires c κs = search needs
@@ -41,7 +41,7 @@ loop-less : tie.Need-loop-less Inv-loop μ-loop
 loop-less c = search needs
 
 loop-again : tie.Need-loop-again Inv-loop μ-loop
-loop-again c = (search needs, list-on _ _ _ (c .before .before .before .before .before .loop .inv .1) _ _ (c .before .before .wide-number .ensures .0) (c .before .is-live .ensures) (c .before .before .before .before .loop-test .taken) (c .if1 .left))
+loop-again c = (search needs, list-on _ _ _ (c .before .before .before .before .before .loop .inv .1) _ _ (c .before .before .wide-word .ensures .0) (c .before .is-live .ensures) (c .before .before .before .before .loop-test .taken) (c .if1 .left))
 
 returns-2 : tie.Need-returns-2 Inv-loop μ-loop
 returns-2 c = search list-end
@@ -53,9 +53,9 @@ list-live-spec =
     Inv-loop
     μ-loop
     loop-holds
-    mul-wide-number
-    shared-slice-read-wide-number
-    wide-number-requires
+    mul-wide-word
+    shared-slice-read-wide-word
+    wide-word-requires
     is-live-requires
     returns
     add-i
