@@ -1,7 +1,7 @@
 -- Bytes as digits: where they are put, and their sums. Assumes nothing.
 use mathlib.Core.Path.{_≡_, refl, _∙_}
 use mathlib.Core.Bool.{Bool, true}
-use mathlib.Core.Logic.{⊎-elim}
+use mathlib.Core.Logic.{_⊎_, ⊎-elim}
 use mathlib.Core.List.{List, [], _∷_, _++_, append-assoc}
 use Prim.Native.Nat.{ℕ, _+_, _*_, _/_, _%_, _≤_, _<_}
 use native.Mathlib.Nat.{le-antisymm, not-suc-le-zero, le-of-suc-le-suc, eq-or-lt-of-le}
@@ -42,22 +42,27 @@ pub pairs-none : (ps : List ℕ) → length ps ≡ byteValues * 2 → Pairs 0 ps
 pairs-none ps e = record { sized = e; high = λ c h. absurd (not-suc-le-zero h); low = λ c h. absurd (not-suc-le-zero h) }
 
 module _ (b : ℕ) (ps : List ℕ) (p : Pairs b ps) (h : b < byteValues) where
-  abbrev more : List ℕ
-  more = set (set ps (b * 2) (getD table (b / 16) 0)) (b * 2 + 1) (getD table (b % 16) 0)
+  abbrev x : ℕ
+  x = getD table (b / 16) 0
 
-  high-more : (c : ℕ) → c < b + 1 → getD more (c * 2) 0 ≡ digit (c / 16)
+  abbrev y : ℕ
+  y = getD table (b % 16) 0
+
+  b-or-below : (c : ℕ) → c < b + 1 → (c ≡ b) ⊎ (c < b)
+  b-or-below c l = eq-or-lt-of-le (le-of-suc-le-suc (rw (← add-one b) l))
+
+  high-more : (c : ℕ) → c < b + 1 → getD (set (set ps (b * 2) x) (b * 2 + 1) y) (c * 2) 0 ≡ digit (c / 16)
   high-more c l =
-      getD-set-other (set ps (b * 2) (getD table (b / 16) 0)) (b * 2 + 1) (c * 2) (getD table (b % 16) 0) 0 (λ e. omega arith)
-      ∙ ⊎-elim (λ q. rw q (getD-set-same ps (b * 2) (getD table (b / 16) 0) 0 (omega (arith, p .sized)) ∙ table-digit (b / 16) (omega arith)))
-      (λ k. getD-set-other ps (b * 2) (c * 2) (getD table (b / 16) 0) 0 (λ e. omega arith) ∙ p .high c k) (eq-or-lt-of-le (le-of-suc-le-suc (rw (← add-one b) l)))
+      getD-set-other (set ps (b * 2) x) (b * 2 + 1) (c * 2) y 0 (λ e. omega arith)
+      ∙ ⊎-elim (λ q. rw q (getD-set-same ps (b * 2) x 0 (omega (arith, p .sized)) ∙ table-digit (b / 16) (omega arith)))
+      (λ k. getD-set-other ps (b * 2) (c * 2) x 0 (λ e. omega arith) ∙ p .high c k) (b-or-below c l)
 
-  low-more : (c : ℕ) → c < b + 1 → getD more (c * 2 + 1) 0 ≡ digit (c % 16)
+  low-more : (c : ℕ) → c < b + 1 → getD (set (set ps (b * 2) x) (b * 2 + 1) y) (c * 2 + 1) 0 ≡ digit (c % 16)
   low-more c l =
-      ⊎-elim (λ q. rw q (getD-set-same (set ps (b * 2) (getD table (b / 16) 0)) (b * 2 + 1) (getD table (b % 16) 0) 0 (simp length-set (omega (arith, p .sized))) ∙ table-digit (b % 16) (omega arith)))
-      (λ k. getD-set-other (set ps (b * 2) (getD table (b / 16) 0)) (b * 2 + 1) (c * 2 + 1) (getD table (b % 16) 0) 0 (λ e. omega arith)
-      ∙ getD-set-other ps (b * 2) (c * 2 + 1) (getD table (b / 16) 0) 0 (λ e. omega arith) ∙ p .low c k) (eq-or-lt-of-le (le-of-suc-le-suc (rw (← add-one b) l)))
+      ⊎-elim (λ q. rw q (getD-set-same (set ps (b * 2) x) (b * 2 + 1) y 0 (simp length-set (omega (arith, p .sized))) ∙ table-digit (b % 16) (omega arith)))
+      (λ k. getD-set-other (set ps (b * 2) x) (b * 2 + 1) (c * 2 + 1) y 0 (λ e. omega arith) ∙ getD-set-other ps (b * 2) (c * 2 + 1) x 0 (λ e. omega arith) ∙ p .low c k) (b-or-below c l)
 
-  pub pairs-more : Pairs (b + 1) more
+  pub pairs-more : Pairs (b + 1) (set (set ps (b * 2) x) (b * 2 + 1) y)
   pairs-more = record { sized = simp length-set (p .sized); high = high-more; low = low-more }
 
 pub pairs-end : (b : ℕ) (ps : List ℕ) → Pairs b ps → b ≤ byteValues → byteValues ≤ b → Pairs byteValues ps
