@@ -9,7 +9,7 @@ use borrow.Author.Count.{below-more}
 use lib.ListN.{length, getD, set, length-set}
 use lib.Seq.{set-getD}
 use borrow.Author.Tests.{eq-eqb, ne-eqb, lt-ltb, le-ltb}
-use Rattle.distance.proofs.Labels.{live-le, live-more, labels-more, shortest}
+use Rattle.distance.proofs.Labels.{live-le, live-more, labels-first, labels-more, shortest}
 use Rattle.distance.specs.Labels.{relM, relD, Relaxed, Labels, live, Nearest, Shortest}
 use Rattle.lists.proofs.Cases.{clash}
 use Rattle.lists.proofs.Store.{store-more, store-rest}
@@ -31,12 +31,12 @@ module _ (E : ℕ → ℕ → Bool) (W : ℕ → ℕ → ℕ) (u v base : ℕ) (
         let r = ne-eqb (getD m v 0) 1 o in
         record { bounded = λ _. small; marks = rw (t, q) (sym (set-getD m v 0)); keys = rw (t, q, r) (sym (set-getD d v 0)) }
 
-    one-shorter : (getD m v 0 ≡ 0 → ⊥) → getD m v 0 ≡ 1 → c < getD d v 0 → One E W u v base m d m (set d v c)
+    one-shorter : (getD m v 0 ≡ 0 → ⊥) → getD m v 0 ≡ 1 → c < getD d v 0 → One E W u v base m d (set m v 1) (set d v c)
     one-shorter z o l =
         let q = ne-eqb (getD m v 0) 0 z in
         let r = eq-eqb (getD m v 0) 1 o in
         let k = lt-ltb c (getD d v 0) l in
-        record { bounded = λ _. small; marks = rw (t, q) (sym (set-getD m v 0)); keys = rw (← is, t, q, r, k) }
+        record { bounded = λ _. small; marks = rw (t, q, o); keys = rw (← is, t, q, r, k) }
 
     one-kept : (getD m v 0 ≡ 0 → ⊥) → getD m v 0 ≡ 1 → getD d v 0 ≤ c → One E W u v base m d m d
     one-kept z o l =
@@ -61,14 +61,14 @@ module _ (c w : List ℕ) (u v base : ℕ) (m d : List ℕ) where
     sums : k ≡ base + keyIn c w u v
     sums = ek .0 ∙ ap (λ (i : ℕ). base + (i * 65536 + 1)) eq
 
-    pub relax-fresh : getD m v 0 ≡ 0 → One (stepIn c) (keyIn c w) u v base m d (set m v 1) (set d v k)
-    relax-fresh z = one-fresh (stepIn c) (keyIn c w) u v base m d there small k sums z
+    pub relax-fresh : getD m v 0 ≡ 0 → (m′ d′ : List ℕ) → m′ ≡ set m v 1 → d′ ≡ set d v k → One (stepIn c) (keyIn c w) u v base m d m′ d′
+    relax-fresh z m′ d′ em ed = rw (em, ed) (one-fresh (stepIn c) (keyIn c w) u v base m d there small k sums z)
 
     pub relax-settled : (getD m v 0 ≡ 0 → ⊥) → (getD m v 0 ≡ 1 → ⊥) → One (stepIn c) (keyIn c w) u v base m d m d
     relax-settled z o = one-settled (stepIn c) (keyIn c w) u v base m d there small k sums z o
 
-    pub relax-shorter : (getD m v 0 ≡ 0 → ⊥) → getD m v 0 ≡ 1 → k < getD d v 0 → One (stepIn c) (keyIn c w) u v base m d m (set d v k)
-    relax-shorter z o l = one-shorter (stepIn c) (keyIn c w) u v base m d there small k sums z o l
+    pub relax-shorter : (getD m v 0 ≡ 0 → ⊥) → getD m v 0 ≡ 1 → k < getD d v 0 → (m′ d′ : List ℕ) → m′ ≡ set m v 1 → d′ ≡ set d v k → One (stepIn c) (keyIn c w) u v base m d m′ d′
+    relax-shorter z o l m′ d′ em ed = rw (em, ed) (one-shorter (stepIn c) (keyIn c w) u v base m d there small k sums z o l)
 
     pub relax-kept : (getD m v 0 ≡ 0 → ⊥) → getD m v 0 ≡ 1 → getD d v 0 ≤ k → One (stepIn c) (keyIn c w) u v base m d m d
     relax-kept z o l = one-kept (stepIn c) (keyIn c w) u v base m d there small k sums z o l
@@ -108,6 +108,19 @@ module _ {E : ℕ → ℕ → Bool} {W : ℕ → ℕ → ℕ} {n u : ℕ} {m₀ 
     keys = λ i li. h .keys i (omega arith);
   }
 
+-- ---- the search: m′ and d′ are what `label` made at the start
+
+module _ (E : ℕ → ℕ → Bool) (W : ℕ → ℕ → ℕ) {n s : ℕ} (m d : List ℕ) {m′ d′ : List ℕ} (small : n ≤ 256) (ls : s < n) (wide : length m ≡ 256) (long : length d ≡ 256)
+    (none : (v : ℕ) → v < n → getD m v 0 ≡ 0) (em : m′ ≡ set m s 1) (ed : d′ ≡ set d s 0) where
+  labels-start : {b r : ℕ} → Labels E W n s b r m′ d′
+  labels-start = rw (em, ed) (labels-first m d small ls wide long none)
+
+  pub first-under : (v : ℕ) → v < n → getD m′ v 0 ≡ 1 → getD d′ v 0 < 9223372036854775808
+  first-under v l o = omega (arith, labels-start {b = 0} {r = 0} .bound v l (λ z. lt-irrefl 0 (omega (arith, z, o))))
+
+  pub search-first : {u : ℕ} → Nearest n m′ d′ u → Search E W n s m′ d′ u
+  search-first b = (labels-start, b)
+
 module _ {E : ℕ → ℕ → Bool} {W : ℕ → ℕ → ℕ} {n s : ℕ} {m d : List ℕ} {u : ℕ} (h : Search E W n s m d u) (small : n ≤ 256) (ls : s < n) where
   pub search-end : n ≤ u → Shortest E W n s m d
   search-end l = shortest (h .0) (omega arith) (omega arith) ls (h .1 .none l)
@@ -119,7 +132,14 @@ module _ {E : ℕ → ℕ → Bool} {W : ℕ → ℕ → ℕ} {n s : ℕ} {m d :
     pub search-fits : getD d u 0 ≤ 144115188075855872
     search-fits = omega (arith, h .0 .bound u lu labelled)
 
-    module _ {m′ d′ : List ℕ} (x : Relaxed E W 281474976710656 n u (set m u 2) d m′ d′) where
+    pub settled-wide : (m₁ : List ℕ) → m₁ ≡ set m u 2 → length m₁ ≡ 256
+    settled-wide m₁ e = ap length e ∙ length-set m u 2 ∙ h .0 .wide
+
+    -- m₁ is what `settle` made, m′ and d′ what `relax` made
+    module _ {m₁ m′ d′ : List ℕ} (e₁ : m₁ ≡ set m u 2) (x₁ : Relaxed E W 281474976710656 n u m₁ d m′ d′) where
+      x : Relaxed E W 281474976710656 n u (set m u 2) d m′ d′
+      x = subst (λ (l : List ℕ). Relaxed E W 281474976710656 n u l d m′ d′) e₁ x₁
+
       fewer : live n m ≡ suc (live n m′)
       fewer = live-more (h .0) small ls lu (h .1 .some lu) (h .1 .least lu) x
 
@@ -130,7 +150,7 @@ module _ {E : ℕ → ℕ → Bool} {W : ℕ → ℕ → ℕ} {n s : ℕ} {m d :
       pub search-under : (v : ℕ) → v < n → getD m′ v 0 ≡ 1 → getD d′ v 0 < 9223372036854775808
       search-under v l o = omega (arith, labels-more (h .0) small ls lu (h .1 .some lu) (h .1 .least lu) x .bound v l (λ z. lt-irrefl 0 (omega (arith, z, o))))
 
-      pub search-more : {u′ : ℕ} → Nearest n m′ d′ n u′ → Search E W n s m′ d′ u′
+      pub search-more : {u′ : ℕ} → Nearest n m′ d′ u′ → Search E W n s m′ d′ u′
       search-more b =
           let e : (n - live n m) * 281474976710656 + 281474976710656 ≡ (n - live n m′) * 281474976710656 = omega (arith, fewer, live-le n m) in
           let f : suc (n - live n m) ≡ n - live n m′ = omega (arith, fewer, live-le n m) in

@@ -1,5 +1,6 @@
 pub mod Best
 pub mod Labels
+pub mod Keys
 pub mod Cost
 pub mod Path
 pub mod Descent

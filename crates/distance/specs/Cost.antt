@@ -51,4 +51,4 @@ pub record Part (E : ℕ → ℕ → Bool) (W : ℕ → ℕ → ℕ) (n u : ℕ)
 
 -- the search: every settled number adds a step's bound
 abbrev pub Search : (ℕ → ℕ → Bool) → (ℕ → ℕ → ℕ) → ℕ → ℕ → List ℕ → List ℕ → ℕ → Type 0
-Search E W n s m d u = Labels E W n s ((n - live n m) * 281474976710656) (n - live n m) m d × Nearest n m d n u
+Search E W n s m d u = Labels E W n s ((n - live n m) * 281474976710656) (n - live n m) m d × Nearest n m d u
