@@ -4,7 +4,7 @@ ghost use Prim.Native.Nat.{ℕ, _+_, _*_, _<_, _≤_};
 ghost use lib.ListN.{length, getD};
 ghost use Rattle.distance.specs.Labels.{Relaxed, Shortest};
 ghost use Rattle.distance.specs.Blocks.{Blocks};
-ghost use Rattle.distance.specs.Cost.{stepIn, keyIn, stepBack, costBack, keyBack, One};
+ghost use Rattle.distance.specs.Cost.{stepIn, keyIn, stepBack, costBack, keyBack, Listed, Within, One};
 ghost use Rattle.distance.specs.Path.{tightb, hop};
 ghost use Rattle.distance.specs.Descent.{Descended, Pair};
 
@@ -57,24 +57,27 @@ fn relax_one(
     }
 }
 
-// The steps of the settled number u.
+// The steps of the settled number u, by its list.
 fn relax(
     c: &[u8; 65536],
     w: &[u32; 256],
+    lists: &[u8; 65536],
+    counts: &[u32; 256],
     n: usize,
     u: usize,
     m: &mut [u8; 256],
     d: &mut [u64; 256],
     b: &mut [u64; 16],
 )
-    requires { ⌜ (n ≤ 256) × (u < n) × (length (now m) ≡ 256) × (length (now d) ≡ 256) × (getD (now d) u 0 ≤ 144115188075855872) × Blocks n (now m) (now d) (now b) ⌝ }
+    requires { ⌜ (n ≤ 256) × (u < n) × (length (now m) ≡ 256) × (length (now d) ≡ 256) × (getD (now d) u 0 ≤ 144115188075855872) × Blocks n (now m) (now d) (now b) × Listed (now c) (now lists) (now counts) × Within n (now c) ⌝ }
     ensures { λ r. ⌜ Relaxed (stepIn (now (c .entry))) (keyIn (now (c .entry)) (now (w .entry))) 281474976710656 n u (now (m .entry)) (now (d .entry)) (now (m .exit)) (now (d .exit)) × Blocks n (now (m .exit)) (now (d .exit)) (now (b .exit)) ⌝ }
 {
     let base = d[u];
-    let mut v = 0;
-    while v < n {
-        relax_one(c, w, n, u, v, base, m, d, b);
-        v += 1;
+    let end = counts[u] as usize;
+    let mut i = 0;
+    while i < end {
+        relax_one(c, w, n, u, lists[u * 256 + i] as usize, base, m, d, b);
+        i += 1;
     }
 }
 
@@ -82,12 +85,14 @@ fn relax(
 pub fn dijkstra(
     c: &[u8; 65536],
     w: &[u32; 256],
+    lists: &[u8; 65536],
+    counts: &[u32; 256],
     n: usize,
     s: usize,
     m: &mut [u8; 256],
     d: &mut [u64; 256],
 )
-    requires { ⌜ (n ≤ 256) × (s < n) × (length (now m) ≡ 256) × (length (now d) ≡ 256) × ((v : ℕ) → v < n → getD (now m) v 0 ≡ 0) ⌝ }
+    requires { ⌜ (n ≤ 256) × (s < n) × (length (now m) ≡ 256) × (length (now d) ≡ 256) × ((v : ℕ) → v < n → getD (now m) v 0 ≡ 0) × Listed (now c) (now lists) (now counts) × Within n (now c) ⌝ }
     ensures { λ r. ⌜ Shortest (stepIn (now (c .entry))) (keyIn (now (c .entry)) (now (w .entry))) n s (now (m .exit)) (now (d .exit)) ⌝ }
 {
     let mut b = [9223372036854775808u64; 16];
@@ -95,7 +100,7 @@ pub fn dijkstra(
     let mut u = blocks::pick(n, m, d, &b);
     while u < n {
         blocks::settle(n, u, m, d, &mut b);
-        relax(c, w, n, u, m, d, &mut b);
+        relax(c, w, lists, counts, n, u, m, d, &mut b);
         u = blocks::pick(n, m, d, &b);
     }
 }
@@ -179,17 +184,19 @@ pub struct Walked {
 pub fn best_walk(
     c: &[u8; 65536],
     w: &[u32; 256],
+    lists: &[u8; 65536],
+    counts: &[u32; 256],
     n: usize,
     x: usize,
     y: usize,
     out: &mut [u32; 256],
 ) -> Walked
-    requires { ⌜ (n ≤ 256) × (x < n) × (y < n) × (length (now out) ≡ 256) ⌝ }
+    requires { ⌜ (n ≤ 256) × (x < n) × (y < n) × (length (now out) ≡ 256) × Listed (now c) (now lists) (now counts) × Within n (now c) ⌝ }
     ensures { λ r. ⌜ Pair (stepBack (now (c .entry))) (costBack (now (c .entry)) (now (w .entry))) n x y (r .ok) (r .cost) (r .steps) (now (out .exit)) ⌝ }
 {
     let mut m = [0u8; 256];
     let mut d = [0u64; 256];
-    dijkstra(c, w, n, y, &mut m, &mut d);
+    dijkstra(c, w, lists, counts, n, y, &mut m, &mut d);
     if m[x] != 2 {
         return Walked {
             ok: false,

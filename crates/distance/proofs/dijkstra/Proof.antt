@@ -11,10 +11,10 @@ use Rattle.distance.proofs.dijkstra.Statement.{statement}
 use Rattle.distance.proofs.dijkstra.Tie as tie
 
 abbrev Inv-loop : tie.InvT-loop
-Inv-loop c w n s m₀ d₀ b₀ u₀ m d b u = Search (stepIn c) (keyIn c w) n s m d u × Blocks n m d b
+Inv-loop c w lists counts n s m₀ d₀ b₀ u₀ m d b u = Search (stepIn c) (keyIn c w) n s m d u × Blocks n m d b
 
 abbrev μ-loop : tie.MeasureT-loop
-μ-loop c w n s m₀ d₀ b₀ u₀ m d b u = live n m
+μ-loop c w lists counts n s m₀ d₀ b₀ u₀ m d b u = live n m
 
 label-requires : tie.Need-label-requires Inv-loop μ-loop
 label-requires c κs =
@@ -40,7 +40,7 @@ relax-requires c κs =
     let i = c .before .before .before .before .before .before .before .before .loop .inv in
     let t = c .before .before .before .before .before .before .before .loop-test .taken in
     let e = c .before .before .before .settle .ensures in
-    (s .pre .0, t, settled-wide (i .0) (s .pre .0) (s .pre .1) t _ (e .0), i .0 .0 .long, search-fits (i .0) (s .pre .0) (s .pre .1) t, e .1)
+    (s .pre .0, t, settled-wide (i .0) (s .pre .0) (s .pre .1) t _ (e .0), i .0 .0 .long, search-fits (i .0) (s .pre .0) (s .pre .1) t, e .1, s .pre .5, s .pre .6)
 
 pick-requires-2 : tie.Need-pick-requires-2 Inv-loop μ-loop
 pick-requires-2 c κs =
