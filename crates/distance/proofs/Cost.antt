@@ -102,12 +102,13 @@ key-again e m d c =
     as-it-was true m d c t = on (eqb m 0) (λ q. clash (rw q) t) (λ q. rw q)
     as-it-was false m d c t = refl
 
--- the step to v is done, or nothing was done to v
+-- the step to v is done
 pub record Done (E : ℕ → ℕ → Bool) (W : ℕ → ℕ → ℕ) (u : ℕ) (m₀ d₀ m d : List ℕ) (v : ℕ) : Type 0 where
   pub bounded : E u v ≡ true → W u v ≤ 281474976710656
   pub mark : getD m v 0 ≡ relM (E u v) (getD m₀ v 0)
   pub key : getD d v 0 ≡ relD (E u v) (getD m₀ v 0) (getD d₀ v 0) (getD d₀ u 0 + W u v)
 
+-- nothing was done to v
 abbrev Same : List ℕ → List ℕ → List ℕ → List ℕ → ℕ → Type 0
 Same m₀ d₀ m d v = (getD m v 0 ≡ getD m₀ v 0) × (getD d v 0 ≡ getD d₀ v 0)
 
