@@ -1,8 +1,8 @@
--- `distance::open_key` meets its contract. Assumes nothing.
+-- `distance::blocks::open_key` meets its contract. Assumes nothing.
 use borrow.Author.Needs.{needs}
-use Rattle.distance.proofs.Labels.{open-far, open-near}
-use Rattle.distance.proofs.open_key.Statement.{statement}
-use Rattle.distance.proofs.open_key.Tie as tie
+use Rattle.distance.proofs.Keys.{open-far, open-near}
+use Rattle.distance.proofs.blocks.open_key.Statement.{statement}
+use Rattle.distance.proofs.blocks.open_key.Tie as tie
 
 far-requires : tie.Need-far-requires
 far-requires c κs = search needs
