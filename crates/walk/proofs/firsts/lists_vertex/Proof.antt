@@ -1,13 +1,13 @@
--- `walk::lists_vertex` meets its contract. Assumes nothing.
+-- `walk::firsts::lists_vertex` meets its contract. Assumes nothing.
 use mathlib.Core.Path.{_≡_, refl, _∙_}
 use mathlib.Core.Logic.{⊎-elim}
 use Prim.Native.Nat.{_≤_, _-_}
 use lib.ListN.{length, take}
 use Rattle.lists.specs.Lists.{memb}
-use Rattle.walk.proofs.Listing.{seen-here, seen-on, seen-end}
+use Rattle.walk.proofs.FirstPlaces.{seen-here, seen-on, seen-end}
 use borrow.Author.Needs.{needs}
-use Rattle.walk.proofs.lists_vertex.Statement.{statement}
-use Rattle.walk.proofs.lists_vertex.Tie as tie
+use Rattle.walk.proofs.firsts.lists_vertex.Statement.{statement}
+use Rattle.walk.proofs.firsts.lists_vertex.Tie as tie
 
 abbrev Inv-loop : tie.InvT-loop
 Inv-loop ms v found₀ i₀ found i = (i ≤ length ms) × (found ≡ memb v (take i ms))
