@@ -11,7 +11,7 @@ use Rattle.lists.specs.Lists.{all}
 use Rattle.lists.proofs.Cases.{and-left, and-both}
 use Rattle.layout.specs.declared.Answer.the-variants.{Done}
 use Rattle.layout.specs.Content.{Table}
-use Rattle.layout.specs.Layout.{limit, size, read, words}
+use Rattle.layout.specs.Layout.{limit, size, read}
 use Rattle.layout.specs.WellFormed.{wellFormed}
 use Rattle.layout.specs.Answers.{result}
 use Rattle.layout.proofs.Shape.{shaped-of}
