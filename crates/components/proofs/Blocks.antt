@@ -1,6 +1,6 @@
 -- Lists of words one after the other, each written into the part of a slice after the one before; and the words of all classes. Assumes nothing.
 use mathlib.Core.Path.{_≡_, refl, sym, ap, ap₂, _∙_}
-use mathlib.Core.Bool.{Bool, false}
+use mathlib.Core.Bool.{Bool}
 use mathlib.Core.List.{List, [], _∷_, _++_, map}
 use Prim.Native.Nat.{ℕ, zero, suc, _+_, _-_, _≤_, _<_}
 use native.Mathlib.Nat.{le-antisymm}
@@ -15,7 +15,7 @@ use Rattle.lists.proofs.Cases.{on-same, on-below}
 use Rattle.lists.proofs.Tab.{tab-suc, map-tab}
 use Rattle.lists.proofs.Flat.{flat-snoc, tab-getD}
 use Rattle.lists.proofs.Parts.{part-tail, back-tail}
-use Rattle.lists.proofs.Count.{count-all}
+use Rattle.lists.proofs.Count.{count-all, count-none}
 use Rattle.lists.proofs.Chosen.{chosen-ext, over-none, over-more, over-part, over-length}
 use Rattle.layout.specs.declared.Answer.the-variants.{Done, NoRoom}
 use Rattle.layout.specs.Answers.{result, listed}
@@ -123,10 +123,6 @@ module _ (f : ℕ → ℕ) (p : ℕ → Bool) (n s : ℕ) (e : s ≡ count p n) 
 count-split : (p q r : ℕ → Bool) (n : ℕ) → ((i : ℕ) → i < n → bit (r i) ≡ bit (p i) + bit (q i)) → count r n ≡ count p n + count q n
 count-split p q r zero h = refl
 count-split p q r (suc n) h = omega (arith, h n (omega arith), count-split p q r n (λ i l. h i (omega arith)))
-
-count-none : (p : ℕ → Bool) (n : ℕ) → ((i : ℕ) → i < n → p i ≡ false) → count p n ≡ 0
-count-none p zero h = refl
-count-none p (suc n) h = omega (arith, ap bit (h n (omega arith)), count-none p n (λ i l. h i (omega arith)))
 
 -- one of the first k classes
 abbrev isWithin : List ℕ → ℕ → ℕ → Bool

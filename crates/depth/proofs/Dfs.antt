@@ -2,7 +2,7 @@
 use mathlib.Core.Path.{_≡_, refl, sym, ap, _∙_}
 use mathlib.Core.Bool.{Bool, true, false, not, _&&_, and-false}
 use mathlib.Core.List.{List}
-use Prim.Native.Nat.{ℕ, suc, _+_, _-_, _≤_, _<_}
+use Prim.Native.Nat.{ℕ, suc, _+_, _-_, _<_}
 use native.Mathlib.Omega.{arith}
 use lib.Dec.{eqb, ltb}
 use lib.ListN.{length, getD, set}
@@ -35,10 +35,6 @@ not-false false e = clash refl e
 pub due-free : (a : Bool) (m : ℕ) → not (a && eqb m 0) ≡ false → m ≡ 0
 due-free true m e = eqb-true m 0 (not-false (eqb m 0) e)
 due-free false m e = clash refl e
-
-pub byte-le : (b : Bool) → boolByte b ≤ 1
-byte-le true = omega arith
-byte-le false = omega arith
 
 pub hindered-is : (a : Bool) (m : ℕ) → ltb 0 (boolByte (not a) + m) ≡ not (a && eqb m 0)
 hindered-is true m = on-same m 0 (λ e. rw e) (λ ne. lt-ltb 0 (0 + m) (omega arith) ∙ sym (ap not (ne-eqb m 0 ne)))
@@ -75,6 +71,12 @@ module _ (E : ℕ → ℕ → Bool) (v : ℕ → St → St) where
   pub tries-end : (x : ℕ) (s : St) → tries E v x 0 s ≡ s
   unfolding tries
   tries-end x s = refl
+
+-- a step tried sees of a relation what it says of the numbers below n
+pub tried-ext : (E F : ℕ → ℕ → Bool) (n : ℕ) → ((i j : ℕ) → i < n → j < n → E i j ≡ F i j) → (v w : ℕ → St → St) → ((k : ℕ) (s : St) → k < n → v k s ≡ w k s)
+    → (x k : ℕ) (s : St) → x < n → k < n → tried E v x k s ≡ tried F w x k s
+unfolding tried
+tried-ext E F n h v w g x k s lx lk = rw (h x k lx lk, g k s lk)
 
 pub visits-more : (E : ℕ → ℕ → Bool) (n f x : ℕ) (s : St) → 0 < f → visits E n f x s ≡ enlist x (tries E (visits E n (f - 1)) x n (mark x s))
 unfolding visits

@@ -10,8 +10,7 @@ use lib.ListN.{length, getD, set, length-set, replicate, length-replicate, getD-
 use lib.Seq.{getD-set-same, getD-set-other}
 use borrow.Author.Tests.{eq-eqb, ne-eqb}
 use Rattle.lists.proofs.Cases.{on-same, clash}
-use Rattle.lists.proofs.Count.{count-ext, count-flip, count-lt}
-use Rattle.order.proofs.Least.{count-none}
+use Rattle.lists.proofs.Count.{count-ext, count-flip, count-lt, count-none}
 use Rattle.distance.specs.Cost.{choiceIn, stepIn, stepCount, Listed}
 use Rattle.distance.proofs.Cost.{count-small}
 

@@ -6,52 +6,20 @@ use Prim.Native.Nat.{ℕ, _+_, _≤_, _<_}
 use native.Mathlib.Omega.{arith}
 use lib.Dec.{ltb, eqb}
 use lib.ListN.{length, length-append}
-use borrow.Author.Tests.{lt-ltb, le-leb, ltb-true, leb-true}
+use borrow.Author.Tests.{lt-ltb, le-leb, ltb-true}
 use Rattle.lists.specs.Lists.{all, memb, isBelow, ascending}
 use Rattle.lists.proofs.Cases.{on, and-left, and-right, and-both}
 use Rattle.lists.proofs.All.{all-at, all-snoc}
+use Rattle.lists.proofs.Kept.{all-then}
 use Rattle.lists.proofs.Maps.{map-length, map-snoc}
 use Rattle.lists.proofs.Memb.{memb-left, memb-at}
-use Rattle.layout.specs.Content.{Hyperedge, Table, vertexNumber, hyperedgeNumber, liveVertices, liveHyperedges, isLive, numbered, membersLive, valid}
+use Rattle.layout.specs.Content.{Hyperedge, Table, vertexNumber, hyperedgeNumber, liveVertices, liveHyperedges, isLive, numbered, membersLive}
 use Rattle.layout.specs.Layout.{vertexLimit, hyperedgeLimit}
 use Rattle.layout.specs.WellFormed.{counted, holdable}
+use Rattle.layout.proofs.Holdable.{Holdable, holdable-of, holdable-by}
 use Rattle.edits.specs.Edits.{addVertex, addHyperedge, withMembers, updateHyperedge}
 
--- ---- the test, taken apart
-
-record Parts (L : ℕ) (t : Table) : Type 0 where
-  vertices-le : length (t .vertices) ≤ vertexLimit
-  hyperedges-le : length (t .hyperedges) ≤ hyperedgeLimit
-  counts : all (counted L) (t .hyperedges) ≡ true
-  vertices-numbered : numbered (liveVertices t) (t .nextVertex) ≡ true
-  hyperedges-numbered : numbered (liveHyperedges t) (t .nextHyperedge) ≡ true
-  members-live : all (membersLive (liveVertices t)) (t .hyperedges) ≡ true
-
-parts : {L : ℕ} {t : Table} → holdable L t ≡ true → Parts L t
-unfolding holdable valid
-parts h =
-    let a = and-right _ _ h in let b = and-right _ _ a in let v = and-right _ _ b in
-    record {
-      vertices-le = leb-true _ _ (and-left _ _ h);
-      hyperedges-le = leb-true _ _ (and-left _ _ a);
-      counts = and-left _ _ b;
-      vertices-numbered = and-left _ _ v;
-      hyperedges-numbered = and-left _ _ (and-right _ _ v);
-      members-live = and-right _ _ (and-right _ _ v);
-    }
-
-whole : {L : ℕ} {t : Table} → Parts L t → holdable L t ≡ true
-unfolding holdable valid
-whole p =
-    and-both _ _ (le-leb _ _ (p .vertices-le)) (and-both _ _ (le-leb _ _ (p .hyperedges-le)) (and-both _ _ (p .counts)
-    (and-both _ _ (p .vertices-numbered) (and-both _ _ (p .hyperedges-numbered) (p .members-live)))))
-
 -- ---- tests of every element
-
-all-imp : {A : Type 0} (f g : A → Bool) (xs : List A) → ((x : A) → f x ≡ true → g x ≡ true) → all f xs ≡ true → all g xs ≡ true
-unfolding all
-all-imp f g [] h e = refl
-all-imp f g (x ∷ xs) h e = and-both _ _ (h x (and-left _ _ e)) (all-imp f g xs h (and-right _ _ e))
 
 all-map : {A : Type 0} (f : A → Bool) (k : A → A) (xs : List A) → ((x : A) → f x ≡ true → f (k x) ≡ true) → all f xs ≡ true → all f (map k xs) ≡ true
 unfolding all
@@ -73,7 +41,7 @@ numbered-more : (xs : List ℕ) (n : ℕ) → numbered xs n ≡ true → numbere
 unfolding numbered
 numbered-more xs n e =
     and-both _ _ (ascending-more xs n (and-left _ _ e) (and-right _ _ e))
-    (all-more (isBelow (n + 1)) xs n (all-imp (isBelow n) (isBelow (n + 1)) xs (λ x h. lt-ltb x (n + 1) (omega (arith, ltb-true x n h))) (and-right _ _ e)) (lt-ltb n (n + 1) (omega arith)))
+    (all-more (isBelow (n + 1)) xs n (all-then (isBelow n) (isBelow (n + 1)) xs (λ x h. lt-ltb x (n + 1) (omega (arith, ltb-true x n h))) (and-right _ _ e)) (lt-ltb n (n + 1) (omega arith)))
 
 length-more : {A : Type 0} (xs : List A) (x : A) (most : ℕ) → length xs < most → length (xs ++ (x ∷ [])) ≤ most
 length-more xs x most h = rw (length-append xs (x ∷ [])) (omega arith)
@@ -91,19 +59,19 @@ add-vertex-live w t = map-snoc vertexNumber (t .vertices) (record { number = t .
 
 still-live : (live : List ℕ) (n : ℕ) (e : Hyperedge) → membersLive live e ≡ true → membersLive (live ++ (n ∷ [])) e ≡ true
 unfolding membersLive
-still-live live n e h = all-imp (isLive live) (isLive (live ++ (n ∷ []))) (e .members) (λ x m. memb-left x live (n ∷ []) m) h
+still-live live n e h = all-then (isLive live) (isLive (live ++ (n ∷ []))) (e .members) (λ x m. memb-left x live (n ∷ []) m) h
 
 pub add-vertex-holdable : (L w : ℕ) (t : Table) → holdable L t ≡ true → length (t .vertices) < vertexLimit → holdable L (addVertex w t) ≡ true
 unfolding addVertex
 add-vertex-holdable L w t h room =
-    let p : Parts L t = parts h in
-    whole (record {
+    let p : Holdable L t = holdable-of h in
+    holdable-by (record {
       vertices-le = length-more (t .vertices) (record { number = t .nextVertex; weight = w }) vertexLimit room;
       hyperedges-le = p .hyperedges-le;
       counts = p .counts;
       vertices-numbered = rw (add-vertex-live w t) (numbered-more (liveVertices t) (t .nextVertex) (p .vertices-numbered));
       hyperedges-numbered = p .hyperedges-numbered;
-      members-live = rw (add-vertex-live w t) (all-imp (membersLive (liveVertices t)) (membersLive (liveVertices t ++ (t .nextVertex ∷ []))) (t .hyperedges)
+      members-live = rw (add-vertex-live w t) (all-then (membersLive (liveVertices t)) (membersLive (liveVertices t ++ (t .nextVertex ∷ []))) (t .hyperedges)
           (still-live (liveVertices t) (t .nextVertex)) (p .members-live));
     })
 
@@ -139,9 +107,9 @@ module _ (L : ℕ) (ms : List ℕ) (t : Table) (h : holdable L t ≡ true) (pos 
   pub add-hyperedge-holdable : (w : ℕ) → length (t .hyperedges) < hyperedgeLimit → holdable L (addHyperedge ms w t) ≡ true
   unfolding addHyperedge membersLive
   add-hyperedge-holdable w room =
-      let p : Parts L t = parts h in
+      let p : Holdable L t = holdable-of h in
       let e : Hyperedge = record { number = t .nextHyperedge; weight = w; members = ms } in
-      whole (record {
+      holdable-by (record {
         vertices-le = p .vertices-le;
         hyperedges-le = length-more (t .hyperedges) e hyperedgeLimit room;
         counts = all-more (counted L) (t .hyperedges) e (p .counts) (list-counted L e pos le);
@@ -154,8 +122,8 @@ module _ (L : ℕ) (ms : List ℕ) (t : Table) (h : holdable L t ≡ true) (pos 
   pub update-holdable : (x : ℕ) → holdable L (updateHyperedge x ms t) ≡ true
   unfolding updateHyperedge membersLive
   update-holdable x =
-      let p : Parts L t = parts h in
-      whole (record {
+      let p : Holdable L t = holdable-of h in
+      holdable-by (record {
         vertices-le = p .vertices-le;
         hyperedges-le = rw map-length (p .hyperedges-le);
         counts = all-map (counted L) (withMembers x ms) (t .hyperedges) (with-either (counted L) x ms (λ e. list-counted L _ pos le)) (p .counts);
@@ -174,10 +142,10 @@ below-next numbers next e x m =
 
 module _ (L : ℕ) (t : Table) (h : holdable L t ≡ true) (x : ℕ) where
   pub vertex-given : isLive (liveVertices t) x ≡ true → x < t .nextVertex
-  vertex-given m = let p : Parts L t = parts h in below-next (liveVertices t) (t .nextVertex) (p .vertices-numbered) x m
+  vertex-given m = let p : Holdable L t = holdable-of h in below-next (liveVertices t) (t .nextVertex) (p .vertices-numbered) x m
 
   pub hyperedge-given : isLive (liveHyperedges t) x ≡ true → x < t .nextHyperedge
-  hyperedge-given m = let p : Parts L t = parts h in below-next (liveHyperedges t) (t .nextHyperedge) (p .hyperedges-numbered) x m
+  hyperedge-given m = let p : Holdable L t = holdable-of h in below-next (liveHyperedges t) (t .nextHyperedge) (p .hyperedges-numbered) x m
 
 pub next-vertex : (w : ℕ) (t : Table) → (addVertex w t .nextVertex ≡ t .nextVertex + 1) × (addVertex w t .nextHyperedge ≡ t .nextHyperedge)
 unfolding addVertex

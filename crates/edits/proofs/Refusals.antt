@@ -5,7 +5,7 @@ use Prim.Native.Nat.{ℕ, _≤_, _<_}
 use native.Mathlib.Omega.{arith}
 use lib.ListN.{length, getD, replicate}
 use borrow.Author.Tests.{lt-ltb, le-ltb, le-leb, lt-leb, eq-eqb, ne-eqb}
-use Rattle.lists.proofs.Cases.{on-below}
+use Rattle.lists.proofs.Cases.{not-none}
 use Rattle.lists.proofs.Tab.{length-tab}
 use Rattle.layout.specs.declared.Found.{Found}
 use Rattle.layout.specs.declared.Found.the-variants.{At, Nothing}
@@ -62,9 +62,6 @@ module _ (ms : List ℕ) (lent : List ℕ) (r : Result) where
   on-short : length ms ≤ limit → r ≡ onShort ms lent r
   unfolding onShort
   on-short h = rw (le-leb (length ms) limit h)
-
-not-none : (n : ℕ) → (n ≡ 0 → ⊥) → 0 < n
-not-none n ne = on-below 0 n (λ h. h) (λ h. absurd (ne (omega arith)))
 
 refused-fine {ℓ} : {A : Type ℓ} (a : Answer) → Refused a ≡ Fine → A
 refused-fine a q = absurd (let z : _≡_ {A = ℕ} 0 1 = cc in omega arith)

@@ -2,7 +2,7 @@
 use mathlib.Core.Path.{_≡_, refl, sym, ap, ap₂, _∙_}
 use mathlib.Core.Bool.{Bool, true, false, cond}
 use mathlib.Core.List.{List, [], _∷_, _++_, map, append-assoc, append-nil}
-use Prim.Native.Nat.{ℕ, zero, suc, _+_, _*_, _-_, _≤_, _<_}
+use Prim.Native.Nat.{ℕ, suc, _+_, _*_, _-_, _≤_, _<_}
 use native.Mathlib.Nat.{mul-le-mul-right, suc-mul}
 use native.Mathlib.Numerals.{add-one, add-two}
 use native.Mathlib.Omega.{arith}
@@ -13,7 +13,7 @@ use lib.Seq.{paste, sets-eq, take-paste, drop-paste, length-paste, take-all, tak
 use Rattle.lists.specs.Tests.{bit}
 use Rattle.lists.specs.Lists.{filter, otherThan, tab, flat, pad}
 use Rattle.lists.proofs.Kept.{filter-length}
-use Rattle.lists.proofs.Cases.{on}
+use Rattle.lists.proofs.Cases.{on, not-none}
 use Rattle.lists.proofs.Tab.{tab-suc, length-tab}
 use Rattle.lists.proofs.Maps.{map-snoc}
 use Rattle.lists.proofs.Filter.{filter-snoc}
@@ -95,11 +95,7 @@ module _ (k c : ℕ) where
   place-kept e = rw (le-ltb 0 c (omega arith)) (omega arith)
 
   pub place-next : (c ≡ 0 → ⊥) → k + 1 ≡ k + bit (ltb 0 c)
-  place-next ne = rw (lt-ltb 0 c (pos c ne))
-    where
-      pos : (c : ℕ) → (c ≡ 0 → ⊥) → 0 < c
-      pos zero ne = absurd (ne refl)
-      pos (suc c) ne = omega arith
+  place-next ne = rw (lt-ltb 0 c (not-none c ne))
 
 stripped-snoc : (v : ℕ) (es : List Hyperedge) (e : Hyperedge) → stripped v (es ++ (e ∷ [])) ≡ cond (hasMembers (without v e)) (stripped v es ++ (without v e ∷ [])) (stripped v es)
 unfolding stripped

@@ -11,21 +11,22 @@ use Rattle.lists.proofs.Cases.{and-left, and-right}
 use Rattle.layout.specs.Content.{Table}
 use Rattle.layout.specs.Layout.{limit, words}
 use Rattle.layout.proofs.Back.{read-words, words-formed}
+use Rattle.layout.proofs.Holdable.{Holdable, holdable-by}
 use Rattle.frames.specs.Frames.{frameText}
 use Rattle.frames.specs.Reading.{verticesDue, hyperedgesDue, hyperedgePlace, lineGood, linesDue, goodLines, accepted}
 use Rattle.frames.specs.Faulty.{Written}
 use Rattle.frame_laws.proofs.Rows.{rows, placeAt, Agrees, agrees-less, agrees-whole}
-use Rattle.frame_laws.proofs.Held.{Held, held-to, Worded, words-fit}
+use Rattle.frame_laws.proofs.Held.{Worded, words-fit}
 use Rattle.frame_laws.proofs.First.{first-before}
 use Rattle.frame_laws.proofs.Begun.{completed, completed-rows, completed-held, completed-worded, completed-agrees, completed-place}
 
 -- the text of a content that a table can hold and that fits in words is written
-pub text-written : (t : Table) → Held t → Worded t → Written (frameText t)
+pub text-written : (t : Table) → Holdable limit t → Worded t → Written (frameText t)
 text-written t d w = record {
   table = words limit t;
   fits = words-fit t d w;
-  formed = words-formed limit t (held-to t d);
-  gives = ap frameText (read-words limit t (held-to t d));
+  formed = words-formed limit t (holdable-by d);
+  gives = ap frameText (read-words limit t (holdable-by d));
 }
 
 -- what is accepted is written

@@ -7,9 +7,11 @@ use native.Mathlib.Omega.{arith}
 use borrow.Author.Tests.{lt-ltb, le-ltb}
 use Rattle.lists.proofs.Tab.{length-tab}
 use Rattle.layout.specs.Content.{Table}
+use Rattle.layout.specs.Layout.{limit}
+use Rattle.layout.proofs.Holdable.{Holdable}
 use Rattle.frames.specs.Reading.{verticesDue, hyperedgesDue, hyperedgePlace, lineGood, linesDue}
 use Rattle.frame_laws.proofs.Rows.{rows, placeAt, Agrees, agrees-less}
-use Rattle.frame_laws.proofs.Held.{Held, Worded}
+use Rattle.frame_laws.proofs.Held.{Worded}
 use Rattle.frame_laws.proofs.Fill.{filledVertex, filledHyperedge, filled, Begun, filled-held, filled-worded, filled-place, filled-agrees}
 
 -- the content for g lines behind the head
@@ -34,7 +36,7 @@ module _ (text : List ℕ) (g : ℕ) where
           all-before = λ h. omega arith;
         }
 
-    pub completed-held : Held (completed text g)
+    pub completed-held : Holdable limit (completed text g)
     completed-held = filled-held text (min g (verticesDue text)) (g - verticesDue text) begun
 
     pub completed-worded : Worded (completed text g)

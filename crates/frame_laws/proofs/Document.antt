@@ -21,12 +21,13 @@ use Rattle.layout.specs.WellFormed.{wellFormed}
 use Rattle.layout.specs.Answers.{Result, result}
 use Rattle.layout.proofs.Shape.{shaped-of}
 use Rattle.layout.proofs.Back.{read-holdable}
+use Rattle.layout.proofs.Holdable.{Holdable, holdable-of}
 use Rattle.frames.specs.Frames.{frameText}
 use Rattle.frames.specs.Reading.{hyperedgesDue, hyperedgePlace, lineGood, linesDue, goodLines, accepted, faultyLine, readResult}
 use Rattle.frames.specs.Faulty.{Written, onto, linesOf, Faulty}
 use Rattle.frame_laws.proofs.Lines.{joined}
 use Rattle.frame_laws.proofs.Rows.{rowAt, rows, placeAt, Agrees, agrees-less, agrees-front, agrees-lines, agrees-of, place-is, row-ended, text-agrees, text-lines, text-rows, text-length}
-use Rattle.frame_laws.proofs.Held.{Held, held-of, Worded, read-worded}
+use Rattle.frame_laws.proofs.Held.{Worded, read-worded}
 use Rattle.frame_laws.proofs.First.{first-le, first-before, first-from, first-none}
 use Rattle.frame_laws.proofs.Good.{hyperedges-due, lines-due, hyperedge-place, line-good}
 use Rattle.frame_laws.proofs.Begun.{completed, completed-agrees}
@@ -88,8 +89,8 @@ module _ (whole : List ℕ) (w : Written whole) where
   abbrev t : Table
   t = read limit (w .table)
 
-  d : Held t
-  d = held-of t (read-holdable limit (w .table) (w .formed))
+  d : Holdable limit t
+  d = holdable-of (read-holdable limit (w .table) (w .formed))
 
   f : Worded t
   f = read-worded (w .table) (w .fits)

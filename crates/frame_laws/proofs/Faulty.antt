@@ -15,12 +15,13 @@ use Rattle.lists.proofs.Flat.{flat-append}
 use Rattle.layout.specs.Content.{Table, numbered}
 use Rattle.layout.specs.Layout.{limit, read}
 use Rattle.layout.proofs.Back.{read-holdable}
+use Rattle.layout.proofs.Holdable.{Holdable, holdable-of}
 use Rattle.frames.specs.Frames.{frameText}
 use Rattle.frames.specs.Reading.{lineGood, linesDue, goodLines, accepted, faultyLine}
 use Rattle.frames.specs.Faulty.{Written, linesOf, Begins, Faulty}
 use Rattle.frame_laws.proofs.Lines.{joined, lines-joined}
 use Rattle.frame_laws.proofs.Rows.{rowAt, rows, Agrees, agrees-less, agrees-front, agrees-of, text-agrees, text-lines}
-use Rattle.frame_laws.proofs.Held.{Held, held-of, Worded, read-worded}
+use Rattle.frame_laws.proofs.Held.{Worded, read-worded}
 use Rattle.frame_laws.proofs.First.{first-le, first-before, first-from}
 use Rattle.frame_laws.proofs.Good.{lines-due, line-good}
 use Rattle.frame_laws.proofs.Begun.{completed, completed-rows, completed-held, completed-worded, completed-agrees}
@@ -32,7 +33,7 @@ use Rattle.frame_laws.proofs.Accepted.{text-written, accepted-written}
 -- some written text has the first k lines of the text: its content, and that they stand in the text
 pub record Shares (k : ℕ) (text : List ℕ) : Type 0 where
   pub content : Table
-  pub held : Held content
+  pub held : Holdable limit content
   pub worded : Worded content
   pub enough : k ≤ rows content
   pub agrees : Agrees k text content
@@ -66,7 +67,7 @@ begins-shares k text refused b =
     let front : take k (linesOf text) ≡ tab (rowAt t) k = same ∙ agrees-front t k (frameText t) (agrees-less (rows t) k (frameText t) t h (text-agrees t)) in
     record {
       content = t;
-      held = held-of t (read-holdable limit (w .table) (w .formed));
+      held = holdable-of (read-holdable limit (w .table) (w .formed));
       worded = read-worded (w .table) (w .fits);
       enough = h;
       agrees = agrees-of t k text (joined (drop k (linesOf text))) (
@@ -87,15 +88,15 @@ begins-less k h text l b = record {
 abbrev pub empty : Table
 empty = record { nextVertex = 0; nextHyperedge = 0; vertices = []; hyperedges = [] }
 
-empty-held : Held empty
+empty-held : Holdable limit empty
 unfolding numbered ascending all _and_
 empty-held = record {
   vertices-le = omega arith;
   hyperedges-le = omega arith;
   vertices-numbered = refl;
   hyperedges-numbered = refl;
-  counts = λ j h. absurd (omega arith);
-  live = λ j h. absurd (omega arith);
+  counts = refl;
+  members-live = refl;
 }
 
 empty-worded : Worded empty

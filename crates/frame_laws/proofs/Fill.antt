@@ -20,12 +20,13 @@ use Rattle.layout.specs.Content.{Vertex, Hyperedge, Table, vertexNumber, hypere
 use Rattle.layout.specs.Layout.{vertexLimit, hyperedgeLimit, limit}
 use Rattle.layout.specs.WellFormed.{counted}
 use Rattle.layout.proofs.Back.{noVertex, noHyperedge}
+use Rattle.layout.proofs.Holdable.{Holdable}
 use Rattle.frames.specs.Frames.{headLine, vertexLine, hyperedgeLine, hyperedgeLength, vertexOf, hyperedgeOf}
 use Rattle.frames.specs.Reading.{standsAt, nextVertexOf, nextHyperedgeOf, verticesDue, hyperedgesDue, vertexPlace, weightIn, countIn, memberIn, vertexIn, hyperedgePlace, hyperedgeIn, contentOf, headGood, climbsTo, numberGood, vertexNumberIn, hyperedgeNumberIn, vertexGood, hyperedgeGood}
 use Rattle.frames.specs.Faulty.{isWord}
 use Rattle.frame_laws.proofs.Rows.{rowAt, placeAt, Agrees, row-vertex, row-hyperedge, vertex-place, hyperedge-next}
 use Rattle.frame_laws.proofs.Standing.{wordValues, next-vertex-fits, next-hyperedge-fits, vertex-fits, hyperedge-fits, hyperedge-members-fit}
-use Rattle.frame_laws.proofs.Held.{Held, Worded}
+use Rattle.frame_laws.proofs.Held.{Worded}
 
 -- ---- numbers
 
@@ -214,7 +215,7 @@ module _ (text : List ℕ) (a b : ℕ) (s : Begun text a b) where
 
   -- ---- a table can hold it, and it fits in words
 
-  pub filled-held : Held t
+  pub filled-held : Holdable limit t
   unfolding filledHyperedge
   filled-held = record {
     vertices-le = rw filled-n n-le;
@@ -223,8 +224,8 @@ module _ (text : List ℕ) (a b : ℕ) (s : Begun text a b) where
     hyperedges-numbered =
         rw (map-tab hyperedgeNumber (filledHyperedge text a b) m)
         (fill-numbered (hyperedgeNumberIn text) b m (nextHyperedgeOf text) m-room (s .hyperedges-le) hyperedge-fit);
-    counts = λ j h. rw (filled-hyperedge j (rw filled-m at h)) (hyperedge-counted j (rw filled-m at h));
-    live = λ j h. rw (filled-hyperedge j (rw filled-m at h)) (hyperedge-live j (rw filled-m at h));
+    counts = all-of (counted limit) (t .hyperedges) noHyperedge (λ j h. rw (filled-hyperedge j (rw filled-m at h)) (hyperedge-counted j (rw filled-m at h)));
+    members-live = all-of (membersLive (liveVertices t)) (t .hyperedges) noHyperedge (λ j h. rw (filled-hyperedge j (rw filled-m at h)) (hyperedge-live j (rw filled-m at h)));
   }
 
   next-vertex-word : nextVertexOf text < wordValues

@@ -11,18 +11,21 @@ use borrow.Author.Tests.{lt-ltb, le-ltb, le-leb, eq-eqb}
 use Rattle.lists.specs.Tests.{_and_}
 use Rattle.lists.specs.Lists.{tab}
 use Rattle.lists.proofs.Cases.{on-below, and-both, or-right}
+use Rattle.lists.proofs.All.{all-at}
 use Rattle.lists.proofs.Tab.{tab-ext}
 use Rattle.lists.proofs.Flat.{tab-getD}
 use Rattle.lists.proofs.Maps.{map-length}
-use Rattle.layout.specs.Content.{Table, vertexNumber, hyperedgeNumber, liveVertices, liveHyperedges, numbered}
-use Rattle.layout.specs.Layout.{vertexLimit, hyperedgeLimit}
+use Rattle.layout.specs.Content.{Table, vertexNumber, hyperedgeNumber, liveVertices, liveHyperedges, numbered, membersLive}
+use Rattle.layout.specs.Layout.{vertexLimit, hyperedgeLimit, limit}
+use Rattle.layout.specs.WellFormed.{counted}
 use Rattle.layout.proofs.Back.{noVertex, noHyperedge}
 use Rattle.layout.proofs.Read.{numbered-ascends}
+use Rattle.layout.proofs.Holdable.{Holdable, members-le}
 use Rattle.frames.specs.Frames.{headLine, hyperedgeLine}
 use Rattle.frames.specs.Reading.{standsAt, nextVertexOf, nextHyperedgeOf, verticesDue, hyperedgesDue, vertexPlace, countIn, vertexIn, hyperedgePlace, hyperedgeIn, contentOf, headGood, climbsTo, numberGood, vertexNumberIn, hyperedgeNumberIn, vertexGood, hyperedgeGood, lineGood, linesDue}
 use Rattle.frame_laws.proofs.Rows.{rowAt, rows, placeAt, Agrees, row-vertex, row-hyperedge, vertex-place, hyperedge-next}
 use Rattle.frame_laws.proofs.Standing.{next-vertex-back, next-hyperedge-back, vertices-back, hyperedges-back, vertex-back, count-back, hyperedge-back}
-use Rattle.frame_laws.proofs.Held.{numbered-ahead, numbered-room, Held, members-le, some-vertex, Worded}
+use Rattle.frame_laws.proofs.Held.{numbered-ahead, numbered-room, some-vertex, Worded}
 
 -- a number of a numbered list fits at its place
 number-good : (number : ℕ → ℕ) (xs : List ℕ) (next i : ℕ) → numbered xs next ≡ true → i < length xs → ((k : ℕ) → k ≤ i → number k ≡ getD xs k 0)
@@ -34,7 +37,7 @@ number-good number xs next (suc i) e h f =
     (lt-ltb (number i) (number (suc i)) (rw (f i (omega arith), f (suc i) (omega arith)) (numbered-ascends xs next e i (suc i) (omega arith) h)))
     (le-leb (number (suc i) + (length xs - suc i)) next (rw (f (suc i) (omega arith)) (numbered-ahead xs next (suc i) e h)))
 
-module _ (text : List ℕ) (t : Table) (d : Held t) (w : Worded t) (g : ℕ) (a : Agrees g text t) where
+module _ (text : List ℕ) (t : Table) (d : Holdable limit t) (w : Worded t) (g : ℕ) (a : Agrees g text t) where
   -- ---- the head
 
   module _ (h : 0 < g) where
@@ -100,7 +103,7 @@ module _ (text : List ℕ) (t : Table) (d : Held t) (w : Worded t) (g : ℕ) (a 
         let n : ℕ = length (t .vertices) in
         let p : hyperedgePlace text j ≡ placeAt t (suc (n + j)) = hyperedge-place j (omega arith) in
         let c : countIn text (placeAt t (suc (n + j))) ≡ length (getD (t .hyperedges) j noHyperedge .members) =
-        count-back text (placeAt t (suc (n + j))) (getD (t .hyperedges) j noHyperedge) (rw (row-hyperedge t j) at (a (suc (n + j)) (omega arith))) (omega (arith, members-le t d j (omega arith))) in
+        count-back text (placeAt t (suc (n + j))) (getD (t .hyperedges) j noHyperedge) (rw (row-hyperedge t j) at (a (suc (n + j)) (omega arith))) (omega (arith, members-le d noHyperedge j (omega arith))) in
         rw (p, c) (sym (hyperedge-next t j))
 
     hyperedge-stands : (j : ℕ) → suc (length (t .vertices) + j) < g → standsAt text (hyperedgePlace text j) (hyperedgeLine (getD (t .hyperedges) j noHyperedge)) ≡ true
@@ -110,7 +113,7 @@ module _ (text : List ℕ) (t : Table) (d : Held t) (w : Worded t) (g : ℕ) (a 
     hyperedge-is j l =
         let h : j < length (t .hyperedges) = omega arith in
         hyperedge-back text (hyperedgePlace text j) (getD (t .hyperedges) j noHyperedge) (hyperedge-stands j l) (w .hyperedge-number j h) (w .hyperedge-weight j h)
-        (omega (arith, members-le t d j h)) (w .members j h)
+        (omega (arith, members-le d noHyperedge j h)) (w .members j h)
 
     hyperedge-good : (j : ℕ) → suc (length (t .vertices) + j) < g → hyperedgeGood text j ≡ true
     unfolding hyperedgeGood contentOf
@@ -123,8 +126,8 @@ module _ (text : List ℕ) (t : Table) (d : Held t) (w : Worded t) (g : ℕ) (a 
         (rw (hyperedges-due (omega arith), next-hyperedge-is (omega arith), ← e) (number-good (hyperedgeNumberIn text) (liveHyperedges t) (t .nextHyperedge) j (d .hyperedges-numbered) (rw e h) (λ k q.
         ap hyperedgeNumber (hyperedge-is k (omega arith)) ∙ sym (List·getD-map hyperedgeNumber (t .hyperedges) k noHyperedge))))
         (and-both _ _
-        (rw (hyperedge-is j l) (d .counts j h))
-        (rw (hyperedge-is j l, vertices-are (omega arith)) (d .live j h))))
+        (rw (hyperedge-is j l) (all-at (counted limit) (t .hyperedges) j noHyperedge (d .counts) h))
+        (rw (hyperedge-is j l, vertices-are (omega arith)) (all-at (membersLive (liveVertices t)) (t .hyperedges) j noHyperedge (d .members-live) h))))
 
     pub line-good : (k : ℕ) → k < g → lineGood text k ≡ true
     unfolding lineGood

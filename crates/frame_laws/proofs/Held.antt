@@ -1,4 +1,4 @@
--- A content that a table can hold: its numbers, its counts, and its words. Assumes nothing.
+-- A content that a table can hold: its numbers, and its words. Assumes nothing.
 use mathlib.Core.Path.{_≡_, refl, ap}
 use mathlib.Core.Bool.{Bool, true}
 use mathlib.Core.List.{List, [], _∷_, _++_}
@@ -7,7 +7,7 @@ use native.Mathlib.Nat.{zero-lt-suc}
 use native.Mathlib.Omega.{arith}
 use lib.ListN.{length, getD, take, drop, replicate, List·getD-eq-default, length-take}
 use lib.Seq.{getD-take, getD-drop}
-use borrow.Author.Tests.{ltb-true, leb-true, lt-ltb, le-leb}
+use borrow.Author.Tests.{ltb-true, lt-ltb}
 use Rattle.lists.specs.Tests.{_and_}
 use Rattle.lists.specs.Lists.{all, flat, pad, Ascending}
 use Rattle.lists.proofs.Cases.{on-below, and-left, and-right, and-both}
@@ -15,9 +15,9 @@ use Rattle.lists.proofs.All.{all-at, all-of}
 use Rattle.lists.proofs.Tab.{length-tab, getD-tab}
 use Rattle.lists.proofs.Maps.{map-length}
 use Rattle.lists.proofs.Memb.{memb-at}
-use Rattle.layout.specs.Content.{Table, vertexNumber, liveVertices, liveHyperedges, isLive, numbered, membersLive, valid}
+use Rattle.layout.specs.Content.{Table, vertexNumber, liveVertices, isLive, numbered, membersLive}
 use Rattle.layout.specs.Layout.{vertexLimit, hyperedgeLimit, vertexSize, recordSize, limit, vertexAt, hyperedgeAt, vertexCount, hyperedgeCount, hyperedgeWord, countAt, read, vertexWords, hyperedgeWords, words, vertexWord}
-use Rattle.layout.specs.WellFormed.{counted, holdable}
+use Rattle.layout.proofs.Holdable.{Holdable, members-le, members-pos}
 use Rattle.layout.proofs.Back.{noVertex, noHyperedge}
 use Rattle.layout.proofs.Read.{numbered-ascends, numbered-below}
 use Rattle.frames.specs.Faulty.{isWord}
@@ -41,53 +41,14 @@ numbered-ahead xs next i e h =
 pub numbered-room : (xs : List ℕ) (next : ℕ) → numbered xs next ≡ true → length xs ≤ next
 numbered-room xs next e = on-below 0 (length xs) (λ h. omega (arith, numbered-ahead xs next 0 e h)) (λ h. omega arith)
 
--- ---- what a table can hold
-
-pub record Held (t : Table) : Type 0 where
-  pub vertices-le : length (t .vertices) ≤ vertexLimit
-  pub hyperedges-le : length (t .hyperedges) ≤ hyperedgeLimit
-  pub vertices-numbered : numbered (liveVertices t) (t .nextVertex) ≡ true
-  pub hyperedges-numbered : numbered (liveHyperedges t) (t .nextHyperedge) ≡ true
-  pub counts : (j : ℕ) → j < length (t .hyperedges) → counted limit (getD (t .hyperedges) j noHyperedge) ≡ true
-  pub live : (j : ℕ) → j < length (t .hyperedges) → membersLive (liveVertices t) (getD (t .hyperedges) j noHyperedge) ≡ true
-
-pub held-of : (t : Table) → holdable limit t ≡ true → Held t
-unfolding holdable valid
-held-of t e =
-    let a = and-right _ _ e in let b = and-right _ _ a in let v = and-right _ _ b in
-    record {
-      vertices-le = leb-true _ _ (and-left _ _ e);
-      hyperedges-le = leb-true _ _ (and-left _ _ a);
-      vertices-numbered = and-left _ _ v;
-      hyperedges-numbered = and-left _ _ (and-right _ _ v);
-      counts = λ j h. all-at (counted limit) (t .hyperedges) j noHyperedge (and-left _ _ b) h;
-      live = λ j h. all-at (membersLive (liveVertices t)) (t .hyperedges) j noHyperedge (and-right _ _ (and-right _ _ v)) h;
-    }
-
-pub held-to : (t : Table) → Held t → holdable limit t ≡ true
-unfolding holdable valid
-held-to t d =
-    and-both _ _ (le-leb _ _ (d .vertices-le)) (and-both _ _ (le-leb _ _ (d .hyperedges-le))
-    (and-both _ _ (all-of (counted limit) (t .hyperedges) noHyperedge (d .counts))
-    (and-both _ _ (d .vertices-numbered) (and-both _ _ (d .hyperedges-numbered)
-    (all-of (membersLive (liveVertices t)) (t .hyperedges) noHyperedge (d .live))))))
-
-module _ (t : Table) (d : Held t) where
-  pub members-le : (j : ℕ) → j < length (t .hyperedges) → length (getD (t .hyperedges) j noHyperedge .members) ≤ limit
-  unfolding counted
-  members-le j h = leb-true _ _ (and-right _ _ (d .counts j h))
-
-  members-pos : (j : ℕ) → j < length (t .hyperedges) → 0 < length (getD (t .hyperedges) j noHyperedge .members)
-  unfolding counted
-  members-pos j h = ltb-true _ _ (and-left _ _ (d .counts j h))
-
-  -- no hyperedge without a vertex
-  pub some-vertex : 0 < length (t .hyperedges) → 0 < length (t .vertices)
-  unfolding membersLive
-  some-vertex h =
-      let ms : List ℕ = getD (t .hyperedges) 0 noHyperedge .members in
-      let q = memb-at (getD ms 0 0) (liveVertices t) (all-at (isLive (liveVertices t)) ms 0 0 (d .live 0 h) (members-pos 0 h)) in
-      omega (arith, q .1, map-length vertexNumber (t .vertices))
+-- no hyperedge without a vertex
+pub some-vertex : (t : Table) → Holdable limit t → 0 < length (t .hyperedges) → 0 < length (t .vertices)
+unfolding membersLive
+some-vertex t d h =
+    let ms : List ℕ = getD (t .hyperedges) 0 noHyperedge .members in
+    let live : all (isLive (liveVertices t)) ms ≡ true = all-at (membersLive (liveVertices t)) (t .hyperedges) 0 noHyperedge (d .members-live) h in
+    let q = memb-at (getD ms 0 0) (liveVertices t) (all-at (isLive (liveVertices t)) ms 0 0 live (members-pos d noHyperedge 0 h)) in
+    omega (arith, q .1, map-length vertexNumber (t .vertices))
 
 -- ---- words
 
@@ -140,7 +101,7 @@ padded : (n : ℕ) (xs : List ℕ) → all isWord xs ≡ true → all isWord (pa
 padded n xs a = all-join isWord xs (replicate (n - length xs) 0) a (all-none (n - length xs))
 
 -- the words of a content that fits in words
-pub words-fit : (t : Table) → Held t → Worded t → all isWord (words limit t) ≡ true
+pub words-fit : (t : Table) → Holdable limit t → Worded t → all isWord (words limit t) ≡ true
 unfolding words all isWord
 words-fit t d w =
     let head : List ℕ = t .nextVertex ∷ t .nextHyperedge ∷ length (t .vertices) ∷ length (t .hyperedges) ∷ [] in
@@ -153,5 +114,5 @@ words-fit t d w =
     and-both _ _ (lt-ltb _ wordValues (w .vertex-number i h)) (and-both _ _ (lt-ltb _ wordValues (w .vertex-weight i h)) refl)))))
     (padded (hyperedgeLimit * recordSize limit) (flat (hyperedgeWords limit) (t .hyperedges)) (all-flat (hyperedgeWords limit) (t .hyperedges) noHyperedge (λ j h.
     and-both _ _ (lt-ltb _ wordValues (w .hyperedge-number j h)) (and-both _ _ (lt-ltb _ wordValues (w .hyperedge-weight j h))
-    (and-both _ _ (lt-ltb (length (getD (t .hyperedges) j noHyperedge .members)) wordValues (omega (arith, members-le t d j h)))
+    (and-both _ _ (lt-ltb (length (getD (t .hyperedges) j noHyperedge .members)) wordValues (omega (arith, members-le d noHyperedge j h)))
     (padded limit (getD (t .hyperedges) j noHyperedge .members) (w .members j h)))))))

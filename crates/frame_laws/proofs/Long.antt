@@ -8,11 +8,12 @@ use lib.ListN.{length, take, drop, length-drop, take-append-drop}
 use lib.Seq.{take-all, length-take-le, drop-append-le, take-append-le}
 use Rattle.lists.proofs.Cases.{on, on-below}
 use Rattle.layout.specs.Content.{Table}
+use Rattle.layout.specs.Layout.{limit}
+use Rattle.layout.proofs.Holdable.{Holdable}
 use Rattle.frames.specs.Reading.{standsAt, accepted, faultyLine, readResult}
 use Rattle.frames.specs.Faulty.{Faulty}
 use Rattle.frame_laws.specs.Longest.{longest}
 use Rattle.frame_laws.proofs.Rows.{rowAt, rows, placeAt}
-use Rattle.frame_laws.proofs.Held.{Held}
 use Rattle.frame_laws.proofs.Longest.{place-le, accepted-short}
 use Rattle.frame_laws.proofs.Faulty.{Shares, shares-begins, begins-shares, faulty-line, faulty-only}
 
@@ -34,7 +35,7 @@ unfolding standsAt
 cut-stands text p xs k h m = rw (cut-part text p (length xs) k h m)
 
 module _ (text : List ℕ) (k : ℕ) (h : longest < k) (m : k ≤ length text) where
-  row-in : (t : Table) → Held t → (g : ℕ) → g ≤ rows t → (i : ℕ) → i < g → placeAt t i + length (rowAt t i) ≤ k
+  row-in : (t : Table) → Holdable limit t → (g : ℕ) → g ≤ rows t → (i : ℕ) → i < g → placeAt t i + length (rowAt t i) ≤ k
   unfolding placeAt
   row-in t d g l i q = let b : placeAt t (suc i) ≤ longest = place-le t d (suc i) (omega arith) in omega arith
 

@@ -9,26 +9,28 @@ use lib.ListN.{length, getD, replicate}
 use Rattle.lists.specs.Tests.{_and_}
 use Rattle.lists.specs.Lists.{all, tab}
 use Rattle.lists.proofs.Cases.{on-below, and-both}
+use Rattle.lists.proofs.All.{all-of}
 use Rattle.lists.proofs.Tab.{length-tab, getD-tab, map-tab}
 use Rattle.lists.proofs.Memb.{memb-getD}
 use Rattle.layout.specs.Content.{Hyperedge, Table, vertexNumber, hyperedgeNumber, liveVertices, isLive, membersLive}
 use Rattle.layout.specs.Layout.{vertexLimit, hyperedgeLimit, limit, read}
 use Rattle.layout.specs.WellFormed.{counted}
 use Rattle.layout.proofs.Back.{noVertex, noHyperedge, read-holdable}
+use Rattle.layout.proofs.Holdable.{Holdable, holdable-of, members-le}
 use Rattle.frames.specs.Frames.{vertexOf, hyperedgeOf, hyperedgeLength, frameText}
 use Rattle.frames.specs.Reading.{vertexPlace, accepted}
 use Rattle.frames.specs.Faulty.{Written}
 use Rattle.frame_laws.specs.Longest.{longest}
 use Rattle.frame_laws.proofs.Rows.{rows, placeAt, vertex-place, hyperedge-next, text-length}
-use Rattle.frame_laws.proofs.Held.{Held, held-of, members-le, Worded, all-none}
+use Rattle.frame_laws.proofs.Held.{Worded, all-none}
 use Rattle.frame_laws.proofs.Fill.{numbered-tab}
 use Rattle.frame_laws.proofs.Accepted.{text-written, accepted-written}
 
 -- where line k begins, behind lines that are no longer than they can be
-module _ (t : Table) (d : Held t) where
+module _ (t : Table) (d : Holdable limit t) where
   hyperedges-end : (j : ℕ) → j ≤ length (t .hyperedges) → placeAt t (suc (length (t .vertices) + j)) ≤ vertexPlace (length (t .vertices)) + j * hyperedgeLength limit
   hyperedges-end zero h = rw (add-zero (length (t .vertices))) (omega (arith, vertex-place t (length (t .vertices)) (omega arith)))
-  hyperedges-end (suc j) h = omega (arith, hyperedge-next t j, members-le t d j h, hyperedges-end j (omega arith))
+  hyperedges-end (suc j) h = omega (arith, hyperedge-next t j, members-le d noHyperedge j h, hyperedges-end j (omega arith))
 
   pub place-le : (k : ℕ) → k ≤ rows t → placeAt t k ≤ longest
   unfolding placeAt
@@ -50,7 +52,7 @@ pub accepted-short : (text : List ℕ) → accepted text ≡ true → length tex
 accepted-short text e =
     let w : Written text = accepted-written text e in
     let t : Table = read limit (w .table) in
-    omega (arith, ap length (w .gives), text-length t, place-le t (held-of t (read-holdable limit (w .table) (w .formed))) (rows t) (omega arith))
+    omega (arith, ap length (w .gives), text-length t, place-le t (holdable-of (read-holdable limit (w .table) (w .formed))) (rows t) (omega arith))
 
 -- a table with 256 vertices and 192 hyperedges of 32 members has a text as long
 abbrev pub fullHyperedge : ℕ → Hyperedge
@@ -86,15 +88,15 @@ unfolding all
 full-live zero = refl
 full-live (suc n) = and-both _ _ zero-live (full-live n)
 
-full-held : Held full
+full-held : Holdable limit full
 unfolding counted membersLive
 full-held = record {
   vertices-le = rw full-vertices (omega arith);
   hyperedges-le = rw full-hyperedges (omega arith);
   vertices-numbered = rw (map-tab vertexNumber (λ (i : ℕ). vertexOf i 0) vertexLimit) (numbered-tab (λ i. i) vertexLimit vertexLimit (λ i h. omega arith) (λ i h. h));
   hyperedges-numbered = rw (map-tab hyperedgeNumber fullHyperedge hyperedgeLimit) (numbered-tab (λ j. j) hyperedgeLimit hyperedgeLimit (λ j h. omega arith) (λ j h. h));
-  counts = λ j h. rw (full-hyperedge j h) (and-both _ _ refl refl);
-  live = λ j h. rw (full-hyperedge j h) (full-live limit);
+  counts = all-of (counted limit) (full .hyperedges) noHyperedge (λ j h. rw (full-hyperedge j h) (and-both _ _ refl refl));
+  members-live = all-of (membersLive (liveVertices full)) (full .hyperedges) noHyperedge (λ j h. rw (full-hyperedge j h) (full-live limit));
 }
 
 full-worded : Worded full

@@ -8,7 +8,7 @@ use lib.ListN.{length, getD, drop}
 use lib.Seq.{drop-drop}
 use borrow.Author.Tests.{ltb-true, lt-ltb}
 use Rattle.lists.specs.Tests.{_and_}
-use Rattle.lists.specs.Lists.{all, isBelow, tab, flat}
+use Rattle.lists.specs.Lists.{all, tab, flat}
 use Rattle.lists.proofs.Cases.{and-left, and-right, and-both}
 use Rattle.lists.proofs.Tab.{tab-ext}
 use Rattle.lists.proofs.Flat.{flat-append}
@@ -17,21 +17,11 @@ use Rattle.frames.specs.Frames.{byteValues, byteOf, numberBytes, shortBytes, he
 use Rattle.frames.specs.Reading.{byteAt, shortAt, numberAt, standsAt, nextVertexOf, nextHyperedgeOf, verticesDue, hyperedgesDue, numberIn, weightIn, countIn, memberIn, hyperedgeFrom}
 use Rattle.frames.specs.Bytes.{bytesAt}
 use Rattle.frames.specs.Faulty.{isWord}
-use Rattle.frames.proofs.Parse.{digits-bytes, number-word, stands-eq}
+use Rattle.frames.proofs.Parse.{digits-bytes, number-word, stands-eq, number-low, short-low}
 
 -- how many values a word has
 abbrev pub wordValues : ℕ
 wordValues = 4294967296
-
-number-low : (x : ℕ) → all (isBelow byteValues) (numberBytes x) ≡ true
-unfolding all numberBytes
-number-low x =
-    and-both _ _ (lt-ltb (byteOf x 16777216) byteValues (omega arith)) (and-both _ _ (lt-ltb (byteOf x 65536) byteValues (omega arith))
-    (and-both _ _ (lt-ltb (byteOf x byteValues) byteValues (omega arith)) (and-both _ _ (lt-ltb (byteOf x 1) byteValues (omega arith)) refl)))
-
-short-low : (x : ℕ) → all (isBelow byteValues) (shortBytes x) ≡ true
-unfolding all shortBytes
-short-low x = and-both _ _ (lt-ltb (byteOf x byteValues) byteValues (omega arith)) (and-both _ _ (lt-ltb (byteOf x 1) byteValues (omega arith)) refl)
 
 -- the bytes of a number make it up
 whole-number : (x : ℕ) → x < wordValues → byteOf x 16777216 * 16777216 + byteOf x 65536 * 65536 + byteOf x byteValues * byteValues + byteOf x 1 ≡ x

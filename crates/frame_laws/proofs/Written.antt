@@ -17,15 +17,16 @@ use Rattle.layout.specs.Answers.{result}
 use Rattle.layout.proofs.Shape.{shaped-of}
 use Rattle.layout.proofs.Words.{words-read}
 use Rattle.layout.proofs.Back.{read-holdable}
+use Rattle.layout.proofs.Holdable.{Holdable, holdable-of}
 use Rattle.frames.specs.Frames.{frameText}
 use Rattle.frames.specs.Reading.{hyperedgesDue, hyperedgePlace, contentOf, lineGood, linesDue, goodLines, accepted, readResult}
 use Rattle.frames.specs.Faulty.{isWord, Written}
 use Rattle.frame_laws.proofs.Rows.{rows, text-agrees, text-length}
-use Rattle.frame_laws.proofs.Held.{Held, held-of, Worded, read-worded}
+use Rattle.frame_laws.proofs.Held.{Worded, read-worded}
 use Rattle.frame_laws.proofs.First.{first-none}
 use Rattle.frame_laws.proofs.Good.{hyperedges-due, lines-due, hyperedge-place, line-good, content-is}
 
-module _ (t : Table) (d : Held t) (w : Worded t) where
+module _ (t : Table) (d : Holdable limit t) (w : Worded t) where
   text-good : goodLines (frameText t) ≡ linesDue (frameText t)
   unfolding goodLines
   text-good =
@@ -49,7 +50,7 @@ module _ (t : Table) (d : Held t) (w : Worded t) where
 pub written-accepted : (text : List ℕ) → Written text → accepted text ≡ true
 written-accepted text w =
     let t : Table = read limit (w .table) in
-    ap accepted (sym (w .gives)) ∙ text-accepted t (held-of t (read-holdable limit (w .table) (w .formed))) (read-worded (w .table) (w .fits))
+    ap accepted (sym (w .gives)) ∙ text-accepted t (holdable-of (read-holdable limit (w .table) (w .formed))) (read-worded (w .table) (w .fits))
 
 -- and reading it into a table of the right length gives the words that it was written from
 pub round-trip : (ws lent : List ℕ) → all isWord ws ≡ true → wellFormed limit ws ≡ true → length lent ≡ size limit
@@ -57,7 +58,7 @@ pub round-trip : (ws lent : List ℕ) → all isWord ws ≡ true → wellFormed 
 unfolding readResult wellFormed
 round-trip ws lent f e len =
     let t : Table = read limit ws in
-    let d : Held t = held-of t (read-holdable limit ws e) in
+    let d : Holdable limit t = holdable-of (read-holdable limit ws e) in
     let w : Worded t = read-worded ws f in
     rw (eq-eqb (length lent) (size limit) len, text-accepted t d w, text-content t d w, words-read limit ws (shaped-of limit ws (and-left _ _ e)))
 
@@ -65,4 +66,4 @@ round-trip ws lent f e len =
 pub written-content : (text : List ℕ) (w : Written text) → contentOf text ≡ read limit (w .table)
 written-content text w =
     let t : Table = read limit (w .table) in
-    ap contentOf (sym (w .gives)) ∙ text-content t (held-of t (read-holdable limit (w .table) (w .formed))) (read-worded (w .table) (w .fits))
+    ap contentOf (sym (w .gives)) ∙ text-content t (holdable-of (read-holdable limit (w .table) (w .formed))) (read-worded (w .table) (w .fits))

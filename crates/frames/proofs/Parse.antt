@@ -26,6 +26,16 @@ unfolding all
 all-append f [] ys h = (refl, h)
 all-append f (x ∷ xs) ys h = let r = all-append f xs ys (and-right _ _ h) in (and-both _ _ (and-left _ _ h) (r .0), r .1)
 
+pub number-low : (x : ℕ) → all (isBelow byteValues) (numberBytes x) ≡ true
+unfolding all numberBytes
+number-low x =
+    and-both _ _ (lt-ltb (byteOf x 16777216) byteValues (omega arith)) (and-both _ _ (lt-ltb (byteOf x 65536) byteValues (omega arith))
+    (and-both _ _ (lt-ltb (byteOf x byteValues) byteValues (omega arith)) (and-both _ _ (lt-ltb (byteOf x 1) byteValues (omega arith)) refl)))
+
+pub short-low : (x : ℕ) → all (isBelow byteValues) (shortBytes x) ≡ true
+unfolding all shortBytes
+short-low x = and-both _ _ (lt-ltb (byteOf x byteValues) byteValues (omega arith)) (and-both _ _ (lt-ltb (byteOf x 1) byteValues (omega arith)) refl)
+
 -- ---- digits and their values
 
 back : ℕ → Bool

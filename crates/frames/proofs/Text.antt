@@ -8,8 +8,8 @@ use native.Mathlib.Numerals.{add-one}
 use native.Mathlib.Omega.{arith}
 use lib.ListN.{length, getD, length-append}
 use Rattle.lists.specs.Lists.{tab, flat}
-use Rattle.lists.proofs.Tab.{tab-suc, length-tab}
-use Rattle.lists.proofs.Flat.{flat-snoc, flat-length}
+use Rattle.lists.proofs.Tab.{length-tab}
+use Rattle.lists.proofs.Flat.{flat-length, flat-suc, flat-more}
 use Rattle.layout.specs.declared.Answer.the-variants.{Done, NoRoom}
 use Rattle.layout.specs.Content.{Vertex, Hyperedge, Table}
 use Rattle.layout.specs.Layout.{nextVertexIn, nextHyperedgeIn, vertexCount, hyperedgeCount, vertexAt, membersAt, hyperedgeAt, read}
@@ -29,17 +29,14 @@ module _ {A : Type 0} (f : A → List ℕ) (g : ℕ → A) where
   unfolding flat tab
   flat-none = refl
 
-  flat-next : (i : ℕ) → flat f (tab g (suc i)) ≡ flat f (tab g i) ++ f (g i)
-  flat-next i = ap (flat f) (tab-suc g i) ∙ flat-snoc f (tab g i) (g i)
-
-  flat-more : (i : ℕ) → flat f (tab g i) ++ f (g i) ≡ flat f (tab g (i + 1))
-  flat-more i = sym (rw (add-one i) (flat-next i))
+  flat-next : (i : ℕ) → flat f (tab g i) ++ f (g i) ≡ flat f (tab g (i + 1))
+  flat-next i = sym (rw (add-one i) (flat-suc f g i))
 
   -- record i of n, and those before it, are no longer than all n
   flat-room : (n i : ℕ) → i < n → length (flat f (tab g i)) + length (f (g i)) ≤ length (flat f (tab g n))
   flat-room zero i h = absurd (not-suc-le-zero h)
   flat-room (suc n) i h =
-      let e : length (flat f (tab g (suc n))) ≡ length (flat f (tab g n)) + length (f (g n)) = ap length (flat-next n) ∙ length-append (flat f (tab g n)) (f (g n)) in
+      let e : length (flat f (tab g (suc n))) ≡ length (flat f (tab g n)) + length (f (g n)) = flat-more f g n in
       ⊎-elim (λ q. rw q (omega arith)) (λ l. omega (arith, flat-room n i l)) (eq-or-lt-of-le (le-of-suc-le-suc h))
 
 -- ---- the vertices
@@ -55,7 +52,7 @@ module _ (ws : List ℕ) where
   pub vertices-more : (i : ℕ) {at p q : ℕ} {a b c : List ℕ}
       → Put at (i * vertexLength) (flat vertexLine (tab (vertexAt ws) i)) a b p → Put p vertexLength (vertexLine (vertexAt ws i)) b c q
       → Put at ((i + 1) * vertexLength) (flat vertexLine (tab (vertexAt ws) (i + 1))) a c q
-  vertices-more i f g = put-as (omega arith) (flat-more vertexLine (vertexAt ws) i) (put-append f g)
+  vertices-more i f g = put-as (omega arith) (flat-next vertexLine (vertexAt ws) i) (put-append f g)
 
   pub vertices-end : (i n : ℕ) {at p : ℕ} {a b : List ℕ} → i ≤ n → n ≤ i → Put at (i * vertexLength) (flat vertexLine (tab (vertexAt ws) i)) a b p
       → Put at (n * vertexLength) (flat vertexLine (tab (vertexAt ws) n)) a b p
@@ -63,7 +60,7 @@ module _ (ws : List ℕ) where
 
 -- ---- the hyperedges
 
-numbers-length : (ms : List ℕ) → length (flat numberBytes ms) ≡ length ms * 4
+pub numbers-length : (ms : List ℕ) → length (flat numberBytes ms) ≡ length ms * 4
 unfolding numberBytes
 numbers-length ms = flat-length numberBytes 4 ms 0 (λ i h. refl)
 
@@ -85,7 +82,7 @@ module _ (L : ℕ) (ws : List ℕ) where
 
   lines-length : (j : ℕ) → length (hyperedgeLines j) + hyperedgeLength (length (membersAt L ws j)) ≡ length (hyperedgeLines (j + 1))
   lines-length j =
-      omega (arith, hyperedge-length (hyperedgeAt L ws j), length-append (hyperedgeLines j) (hyperedgeLine (hyperedgeAt L ws j)), ap length (flat-more hyperedgeLine (hyperedgeAt L ws) j))
+      omega (arith, hyperedge-length (hyperedgeAt L ws j), length-append (hyperedgeLines j) (hyperedgeLine (hyperedgeAt L ws j)), ap length (flat-next hyperedgeLine (hyperedgeAt L ws) j))
 
   pub line-room : (at next j m : ℕ) (before text : List ℕ) → j < m → at + length (hyperedgeLines m) ≤ length before → length text ≡ length before
       → Put at (length (hyperedgeLines j)) (hyperedgeLines j) before text next → next + hyperedgeLength (length (membersAt L ws j)) ≤ length text
@@ -93,7 +90,7 @@ module _ (L : ℕ) (ws : List ℕ) where
 
   pub hyperedges-more : (j : ℕ) {at p q : ℕ} {a b c : List ℕ} → Put at (length (hyperedgeLines j)) (hyperedgeLines j) a b p
       → Put p (hyperedgeLength (length (membersAt L ws j))) (hyperedgeLine (hyperedgeAt L ws j)) b c q → Put at (length (hyperedgeLines (j + 1))) (hyperedgeLines (j + 1)) a c q
-  hyperedges-more j f g = put-as (lines-length j) (flat-more hyperedgeLine (hyperedgeAt L ws) j) (put-append f g)
+  hyperedges-more j f g = put-as (lines-length j) (flat-next hyperedgeLine (hyperedgeAt L ws) j) (put-append f g)
 
   pub hyperedges-end : (j m : ℕ) {at p : ℕ} {a b : List ℕ} → j ≤ m → m ≤ j → Put at (length (hyperedgeLines j)) (hyperedgeLines j) a b p → Put at (length (hyperedgeLines m)) (hyperedgeLines m) a b p
   hyperedges-end j m h l f = rw (← le-antisymm h l) f
@@ -117,7 +114,7 @@ module _ (L : ℕ) (ws : List ℕ) where
   length-none = sym (ap length (flat-none hyperedgeLine (hyperedgeAt L ws)))
 
   pub length-more : (j sum x : ℕ) → sum ≡ length (hyperedgeLines j) → x ≡ length (hyperedgeLine (hyperedgeAt L ws j)) → sum + x ≡ length (hyperedgeLines (j + 1))
-  length-more j sum x e f = rw (e, f) (sym (length-append (hyperedgeLines j) (hyperedgeLine (hyperedgeAt L ws j))) ∙ ap length (flat-more hyperedgeLine (hyperedgeAt L ws) j))
+  length-more j sum x e f = rw (e, f) (sym (length-append (hyperedgeLines j) (hyperedgeLine (hyperedgeAt L ws j))) ∙ ap length (flat-next hyperedgeLine (hyperedgeAt L ws) j))
 
   pub length-end : (sum j m : ℕ) → j ≤ m → m ≤ j → sum ≡ length (hyperedgeLines j) → sum ≡ length (hyperedgeLines m)
   length-end sum j m h l e = e ∙ ap (λ (k : ℕ). length (hyperedgeLines k)) (le-antisymm h l)

@@ -7,11 +7,11 @@ use native.Mathlib.Nat.{mul-le-mul-right, add-zero, add-assoc}
 use native.Mathlib.Omega.{arith}
 use lib.ListN.{length, getD, take, drop, length-append, length-drop, List·getD-append, List·getD-eq-default}
 use lib.Seq.{getD-append-add, length-take-le, ext-getD}
-use borrow.Author.Tests.{lt-ltb, le-leb, leb-true, ltb-true}
+use borrow.Author.Tests.{lt-ltb, le-leb}
 use Rattle.lists.specs.Tests.{_and_}
 use Rattle.lists.specs.Lists.{flat, pad}
 use Rattle.lists.proofs.Cases.{and-left, and-right, and-both}
-use Rattle.lists.proofs.All.{all-at, all-of}
+use Rattle.lists.proofs.All.{all-of}
 use Rattle.lists.proofs.Tab.{tab-ext, length-tab, getD-tab}
 use Rattle.lists.proofs.Every.{every-of}
 use Rattle.lists.proofs.Stride.{stride}
@@ -22,6 +22,7 @@ use Rattle.layout.specs.Layout.{vertexLimit, hyperedgeLimit, vertexSize,
 use Rattle.layout.specs.WellFormed.{recordShaped, unusedVertices, unusedHyperedges, wellFormed, counted, holdable, Shaped}
 use Rattle.layout.proofs.Shape.{shaped-of, shaped-by, count-le, count-pos}
 use Rattle.layout.proofs.Words.{words-read}
+use Rattle.layout.proofs.Holdable.{Holdable, holdable-of, members-le, members-pos}
 
 abbrev pub noVertex : Vertex
 noVertex = record { number = 0; weight = 0 }
@@ -29,25 +30,7 @@ noVertex = record { number = 0; weight = 0 }
 abbrev pub noHyperedge : Hyperedge
 noHyperedge = record { number = 0; weight = 0; members = [] }
 
--- the limits that a content keeps
-record Within (L : ℕ) (t : Table) : Type 0 where
-  vertices-le : length (t .vertices) ≤ vertexLimit
-  hyperedges-le : length (t .hyperedges) ≤ hyperedgeLimit
-  members-le : (j : ℕ) → j < length (t .hyperedges) → length (getD (t .hyperedges) j noHyperedge .members) ≤ L
-  members-pos : (j : ℕ) → j < length (t .hyperedges) → 0 < length (getD (t .hyperedges) j noHyperedge .members)
-
-within : (L : ℕ) (t : Table) → holdable L t ≡ true → Within L t
-unfolding holdable counted
-within L t e =
-    let a = and-right _ _ e in let c = and-left _ _ (and-right _ _ a) in
-    record {
-      vertices-le = leb-true _ _ (and-left _ _ e);
-      hyperedges-le = leb-true _ _ (and-left _ _ a);
-      members-le = λ j h. leb-true _ _ (and-right _ _ (all-at (counted L) (t .hyperedges) j noHyperedge c h));
-      members-pos = λ j h. ltb-true _ _ (and-left _ _ (all-at (counted L) (t .hyperedges) j noHyperedge c h));
-    }
-
-module _ (L : ℕ) (t : Table) (w : Within L t) where
+module _ (L : ℕ) (t : Table) (w : Holdable L t) where
   head : List ℕ
   head = t .nextVertex ∷ t .nextHyperedge ∷ length (t .vertices) ∷ length (t .hyperedges) ∷ []
 
@@ -64,7 +47,7 @@ module _ (L : ℕ) (t : Table) (w : Within L t) where
   vertices-length = flat-length vertexWords vertexSize (t .vertices) noVertex (λ i h. refl)
 
   uniform : (j : ℕ) → j < length (t .hyperedges) → length (hyperedgeWords L (getD (t .hyperedges) j noHyperedge)) ≡ recordSize L
-  uniform j h = omega (arith, length-pad L (getD (t .hyperedges) j noHyperedge .members) (w .members-le j h))
+  uniform j h = omega (arith, length-pad L (getD (t .hyperedges) j noHyperedge .members) (members-le w noHyperedge j h))
 
   hyperedges-length : length (flat (hyperedgeWords L) (t .hyperedges)) ≡ length (t .hyperedges) * recordSize L
   hyperedges-length = flat-length (hyperedgeWords L) (recordSize L) (t .hyperedges) noHyperedge uniform
@@ -134,7 +117,7 @@ module _ (L : ℕ) (t : Table) (w : Within L t) where
   members-back : (j : ℕ) → j < length (t .hyperedges) → membersAt L laid j ≡ getD (t .hyperedges) j noHyperedge .members
   members-back j h =
       let ms : List ℕ = getD (t .hyperedges) j noHyperedge .members in
-      let le : length ms ≤ L = w .members-le j h in
+      let le : length ms ≤ L = members-le w noHyperedge j h in
       let n : length (take (length ms) (drop (hyperedgeWord L j + 3) laid)) ≡ length ms =
       length-take-le (length ms) (drop (hyperedgeWord L j + 3) laid) (rw length-drop (omega (arith, record-in j h))) in
       ap (λ (c : ℕ). take c (drop (hyperedgeWord L j + 3) laid)) (count-back j h)
@@ -160,9 +143,9 @@ module _ (L : ℕ) (t : Table) (w : Within L t) where
   record-back j h =
       let ms : List ℕ = getD (t .hyperedges) j noHyperedge .members in
       let c : ℕ = length ms in
-      let le : c ≤ L = w .members-le j h in
+      let le : c ≤ L = members-le w noHyperedge j h in
       let a : ℕ = hyperedgeWord L j + 3 in
-      rw (count-back j h) (and-both _ _ (lt-ltb 0 c (w .members-pos j h)) (and-both _ _ (le-leb c L le)
+      rw (count-back j h) (and-both _ _ (lt-ltb 0 c (members-pos w noHyperedge j h)) (and-both _ _ (le-leb c L le)
       (zeros-part-of laid (a + c) (L - c) (omega (arith, record-in j h)) (λ p u v.
       let q : a + (p - a) ≡ p = omega arith in
       ap (λ (i : ℕ). getD laid i 0) (sym q) ∙ member-word j (p - a) h (omega arith) ∙ List·getD-eq-default ms 0 {n = p - a} (omega arith)))))
@@ -203,12 +186,12 @@ module _ (L : ℕ) (t : Table) (w : Within L t) where
 
 module _ (L : ℕ) (t : Table) (h : holdable L t ≡ true) where
   pub read-words : read L (words L t) ≡ t
-  read-words = rw (← laid-words L t (within L t h)) (back L t (within L t h))
+  read-words = rw (← laid-words L t (holdable-of h)) (back L t (holdable-of h))
 
   pub words-formed : wellFormed L (words L t) ≡ true
   unfolding wellFormed holdable
   words-formed =
-      and-both _ _ (shaped-by L (words L t) (rw (← laid-words L t (within L t h)) (laid-shaped L t (within L t h))))
+      and-both _ _ (shaped-by L (words L t) (rw (← laid-words L t (holdable-of h)) (laid-shaped L t (holdable-of h))))
       (rw read-words (and-right _ _ (and-right _ _ (and-right _ _ h))))
 
 -- what a well-formed list of words reads as can be held

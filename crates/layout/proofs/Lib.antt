@@ -3,6 +3,7 @@ pub mod Bracket
 pub mod Shape
 pub mod Read
 pub mod Words
+pub mod Holdable
 pub mod Back
 pub mod Record
 pub mod Answers

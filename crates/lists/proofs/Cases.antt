@@ -1,10 +1,11 @@
 -- The ways that a test or a comparison can go; two tests joined. Assumes nothing.
 use mathlib.Core.Path.{_≡_, refl, sym, _∙_}
-use mathlib.Core.Bool.{Bool, true, false, _||_, true≢false}
+use mathlib.Core.Bool.{Bool, true, false, _&&_, _||_, true≢false}
 use mathlib.Core.Logic.{_⊎_, inl, inr, ⊎-elim}
-use Prim.Native.Nat.{ℕ, _≤_, _<_}
+use Prim.Native.Nat.{ℕ, zero, suc, _≤_, _<_}
+use native.Mathlib.Nat.{zero-lt-suc}
 use lib.Dec.{ltb, eqb}
-use borrow.Author.Tests.{ltb-true, ltb-false, eqb-true, eqb-false}
+use borrow.Author.Tests.{ltb-true, ltb-false, eqb-true, eqb-false, ne-eqb}
 use Rattle.lists.specs.Tests.{_and_}
 
 pub true-or-false : (b : Bool) → (b ≡ true) ⊎ (b ≡ false)
@@ -29,6 +30,13 @@ on-same a b f g = ⊎-elim f g (eq-or-ne a b)
 
 pub on-below {ℓ} : {C : Type ℓ} (a b : ℕ) → (a < b → C) → (b ≤ a → C) → C
 on-below a b f g = ⊎-elim f g (lt-or-ge a b)
+
+pub eqb-comm : (a b : ℕ) → eqb a b ≡ eqb b a
+eqb-comm a b = on-same a b (λ e. rw e) (λ ne. ne-eqb a b ne ∙ sym (ne-eqb b a (λ q. ne (sym q))))
+
+pub not-none : (n : ℕ) → (n ≡ 0 → ⊥) → 0 < n
+not-none zero ne = absurd (ne refl)
+not-none (suc n) ne = zero-lt-suc n
 
 -- two tests that pass together are the same
 pub test-ext : (a b : Bool) → (a ≡ true → b ≡ true) → (b ≡ true → a ≡ true) → a ≡ b
@@ -72,6 +80,15 @@ pub and-assoc : (a b c : Bool) → ((a and b) and c) ≡ (a and (b and c))
 unfolding _and_
 and-assoc true b c = refl
 and-assoc false b c = refl
+
+-- the same of the code's own `&&`
+pub and-true-left : (a b : Bool) → (a && b) ≡ true → a ≡ true
+and-true-left true b e = refl
+and-true-left false b e = clash e refl
+
+pub and-true-right : (a b : Bool) → (a && b) ≡ true → b ≡ true
+and-true-right true b e = e
+and-true-right false b e = clash e refl
 
 -- ---- either test
 

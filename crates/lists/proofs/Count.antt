@@ -109,6 +109,10 @@ pub count-all : (p : ℕ → Bool) (n : ℕ) → ((i : ℕ) → i < n → p i �
 count-all p zero h = refl
 count-all p (suc n) h = omega (arith, ap bit (h n (omega arith)), count-all p n (λ i l. h i (omega arith)))
 
+pub count-none : (p : ℕ → Bool) (n : ℕ) → ((i : ℕ) → i < n → p i ≡ false) → count p n ≡ 0
+count-none p zero h = refl
+count-none p (suc n) h = omega (arith, ap bit (h n (omega arith)), count-none p n (λ i l. h i (omega arith)))
+
 -- a list with no repeat that is shorter than n lacks a number below n
 pub lacks : (l : List ℕ) (n : ℕ) → Distinct l → Below n l → length l < n → (x : ℕ) × (x < n) × (memb x l ≡ false)
 lacks l n d b h =

@@ -22,13 +22,20 @@ pub flat-snoc : {A : Type 0} (f : A → List ℕ) (xs : List A) (x : A) → flat
 unfolding flat
 flat-snoc f xs x = flat-append f xs (x ∷ []) ∙ ap (λ (r : List ℕ). flat f xs ++ r) (append-nil (f x))
 
+module _ {A : Type 0} (f : A → List ℕ) (g : ℕ → A) where
+  pub flat-suc : (j : ℕ) → flat f (tab g (suc j)) ≡ flat f (tab g j) ++ f (g j)
+  flat-suc j = ap (flat f) (tab-suc g j) ∙ flat-snoc f (tab g j) (g j)
+
+  pub flat-more : (j : ℕ) → length (flat f (tab g (suc j))) ≡ length (flat f (tab g j)) + length (f (g j))
+  flat-more j = ap length (flat-suc j) ∙ length-append (flat f (tab g j)) (f (g j))
+
 -- n records of k words, each the k words from its place on, are the n * k words from the first's place on
 pub flat-tab : {A : Type 0} (f : A → List ℕ) (g : ℕ → A) (k base : ℕ) (ws : List ℕ) (n : ℕ)
     → ((i : ℕ) → i < n → f (g i) ≡ take k (drop (base + i * k) ws)) → flat f (tab g n) ≡ take (n * k) (drop base ws)
 unfolding flat tab
 flat-tab f g k base ws zero h = rw (zero-mul k)
 flat-tab f g k base ws (suc n) h =
-    ap (flat f) (tab-suc g n) ∙ flat-snoc f (tab g n) (g n)
+    flat-suc f g n
     ∙ ap₂ _++_ (flat-tab f g k base ws n (λ i l. h i (omega arith))) (h n (omega arith) ∙ ap (take k) (sym (drop-drop (n * k) base ws)))
     ∙ sym (take-add (n * k) k (drop base ws)) ∙ ap (λ (m : ℕ). take m (drop base ws)) (sym (suc-mul n k))
 

@@ -15,8 +15,7 @@ use Rattle.lists.specs.Lists.{over, memb, flat, tab}
 use Rattle.lists.proofs.Cases.{on, on-same}
 use Rattle.lists.proofs.Stride.{stride}
 use Rattle.lists.proofs.Parts.{part-count, part-tail, back-tail}
-use Rattle.lists.proofs.Tab.{tab-suc}
-use Rattle.lists.proofs.Flat.{flat-snoc}
+use Rattle.lists.proofs.Flat.{flat-suc, flat-more}
 use Rattle.lists.proofs.Chosen.{over-none, over-more, over-part, over-length}
 use Rattle.layout.specs.Content.{Hyperedge}
 use Rattle.layout.specs.Layout.{recordSize, hyperedgesAt, hyperedgeWord, hyperedgeCount, countAt, hyperedgeAt, membersAt}
@@ -191,18 +190,12 @@ unfolding flat tab
 laid-none f g out₀ = record { counted = refl; wrote = sym (over-none out₀); same = refl }
 
 module _ {A : Type 0} (f : A → List ℕ) (g : ℕ → A) where
-  pub flat-suc : (j : ℕ) → flat f (tab g (suc j)) ≡ flat f (tab g j) ++ f (g j)
-  flat-suc j = ap (flat f) (tab-suc g j) ∙ flat-snoc f (tab g j) (g j)
-
-  pub flat-more : (j : ℕ) → length (flat f (tab g (suc j))) ≡ length (flat f (tab g j)) + length (f (g j))
-  flat-more j = ap length (flat-suc j) ∙ length-append (flat f (tab g j)) (f (g j))
-
   flat-upto : (n j : ℕ) → j ≤ n → length (flat f (tab g j)) ≤ length (flat f (tab g n))
   flat-upto zero j l = let e : j ≡ 0 = omega arith in omega (arith, ap (λ (k : ℕ). length (flat f (tab g k))) e)
   flat-upto (suc n) j l =
       on-same j (suc n)
       (λ s. omega (arith, ap (λ (k : ℕ). length (flat f (tab g k))) s))
-      (λ ne. omega (arith, flat-upto n j (omega arith), flat-more n))
+      (λ ne. omega (arith, flat-upto n j (omega arith), flat-more f g n))
 
 module _ {A : Type 0} {f : A → List ℕ} {g : ℕ → A} {out₀ out : List ℕ} {j c : ℕ} (d : Laid f g out₀ j c out) where
   -- while a record is ahead, there is room for its block

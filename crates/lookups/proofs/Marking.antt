@@ -11,7 +11,7 @@ use lib.Seq.{drop-cons}
 use borrow.Author.Tests.{eq-eqb, ne-eqb}
 use Rattle.lists.specs.Tests.{_and_}
 use Rattle.lists.specs.Lists.{any, memb, filter}
-use Rattle.lists.proofs.Cases.{on-same, or-false, and-true, and-false-left, and-false-right}
+use Rattle.lists.proofs.Cases.{on-same, or-false, and-true, and-false-left, and-false-right, eqb-comm}
 use Rattle.layout.specs.declared.Found.{Found}
 use Rattle.layout.specs.declared.Found.the-variants.{At, Nothing}
 use Rattle.layout.specs.Content.{liveVertices, position}
@@ -26,9 +26,6 @@ use Rattle.lookups.specs.declared.Relation.{Relation}
 use Rattle.lookups.specs.declared.Relation.the-variants.{From, To, Around}
 use Rattle.lookups.specs.Lookups.{facing, coMember, relates, end}
 use Rattle.lookups.specs.State.{someOf, with, isOther, noMarks, MarkedBy}
-
-pub eqb-comm : (a b : ℕ) → eqb a b ≡ eqb b a
-eqb-comm a b = on-same a b (λ e. rw e) (λ ne. ne-eqb a b ne ∙ sym (ne-eqb b a (λ q. ne (sym q))))
 
 -- ---- one mark more
 

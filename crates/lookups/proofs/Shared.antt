@@ -12,7 +12,7 @@ use lib.Seq.{getD-set-same, getD-set-other}
 use borrow.Author.Tests.{eq-eqb, eqb-true, lt-ltb, le-ltb}
 use Rattle.lists.specs.Tests.{_and_}
 use Rattle.lists.specs.Lists.{all, any, memb, tab}
-use Rattle.lists.proofs.Cases.{clash, on-same, test-ext, and-left, and-right, and-both, and-false-left, and-false-right, and-true, and-assoc, or-true, or-right, or-false-left, or-false-right}
+use Rattle.lists.proofs.Cases.{clash, on-same, test-ext, and-left, and-right, and-both, and-false-left, and-false-right, and-true, and-assoc, or-true, or-right, or-false-left, or-false-right, eqb-comm}
 use Rattle.lists.proofs.Tab.{getD-tab, length-tab}
 use Rattle.lists.proofs.Ascend.{ascending-apart}
 use Rattle.layout.specs.declared.Found.{Found}
@@ -29,7 +29,7 @@ use Rattle.marks.specs.Marks.{isMarked}
 use Rattle.lookups.specs.Lookups.{isMemberOf, hasMember, shared}
 use Rattle.lookups.specs.State.{someOf, with, noMarks, MarkedBy, KeptBy, Both}
 use Rattle.lookups.specs.Results.{onSeveral, intersectionsResult}
-use Rattle.lookups.proofs.Marking.{eqb-comm, no-marks-length, no-mark}
+use Rattle.lookups.proofs.Marking.{no-marks-length, no-mark}
 
 -- ---- both: the code tested a
 

@@ -11,6 +11,7 @@ use lib.Seq.{getD-set-same, getD-set-other}
 use borrow.Author.Tests.{eq-eqb, ne-eqb}
 use Rattle.lists.specs.Lists.{flat, tab, Ascending}
 use Rattle.lists.proofs.Cases.{on, on-same}
+use Rattle.lists.proofs.Flat.{flat-more}
 use Rattle.lists.proofs.Ascend.{ascending-apart}
 use Rattle.layout.specs.declared.Found.{Found}
 use Rattle.layout.specs.declared.Found.the-variants.{At, Nothing}
@@ -26,7 +27,7 @@ use Rattle.lookups.specs.Lookups.{facing, end, stepAt, places, placesIn,
 use Rattle.lookups.specs.State.{listingMost, ahead, nothing, tallying, Tallied}
 use Rattle.lookups.proofs.Places.{places-more, places-none, records-more, records-none}
 use Rattle.lookups.proofs.Marking.{step-yes, step-no}
-use Rattle.lookups.proofs.Laid.{block-most, flat-more}
+use Rattle.lookups.proofs.Laid.{block-most}
 
 -- ---- what a listing has left: of record j's list from place i on, and then of the records behind
 

@@ -109,7 +109,7 @@ pub number-live : (L : ℕ) (ws : List ℕ) (n : ℕ) → n ≡ vertexCount ws �
 number-live L ws n e k x h q = q ∙ sym (live-at L ws k (rw (← e) h))
 
 module _ (L : ℕ) (ws : List ℕ) (marks : List Bool) (n : ℕ) (e : n ≡ vertexCount ws) where
-  marked-are : map (numberAt (liveVertices (read L ws))) (chosen (isMarked marks) n) ≡ marked marks (liveVertices (read L ws))
+  pub marked-are : map (numberAt (liveVertices (read L ws))) (chosen (isMarked marks) n) ≡ marked marks (liveVertices (read L ws))
   unfolding marked
   marked-are = rw (e, live-length L ws)
 

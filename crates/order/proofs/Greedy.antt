@@ -1,6 +1,6 @@
 -- The sort as it is made has every number exactly where no walk is closed, and is then the smallest order. Assumes nothing.
 use mathlib.Core.Path.{_≡_, refl, sym, ap, _∙_, subst}
-use mathlib.Core.Bool.{Bool, true, false, _&&_, _||_, not}
+use mathlib.Core.Bool.{Bool, true, false, _||_, not}
 use mathlib.Core.Logic.{inl, inr, ⊎-elim}
 use mathlib.Core.List.{List, [], _∷_, _++_, append-nil}
 use Prim.Native.Nat.{ℕ, zero, suc, _+_, _≤_, _<_}
@@ -11,25 +11,17 @@ use lib.ListN.{length, getD, length-append, List·getD-append}
 use lib.Seq.{getD-append-seam, append-snoc}
 use borrow.Author.Tests.{not-true, ne-eqb, eq-eqb, eqb-true, eqb-false, lt-ltb, le-ltb, ltb-true, ltb-false}
 use Rattle.graph.specs.Reach.{Edge}
-use Rattle.lists.proofs.Cases.{on, on-same, clash, or-right, test-ext}
-use Rattle.lists.proofs.Count.{pigeon, full, lacks}
+use Rattle.lists.proofs.Cases.{on, on-same, clash, or-right, test-ext, and-true-left, and-true-right}
+use Rattle.lists.proofs.Count.{pigeon, full, lacks, count-none}
 use Rattle.lists.proofs.Memb.{memb-left, memb-snoc, memb-getD, memb-at, below-snoc, distinct-snoc, memb-append, memb-self, below-memb}
 use Rattle.lists.specs.Lists.{memb, isBelow, Distinct, Below}
 use Rattle.lists.specs.Tests.{count}
-use Rattle.order.proofs.Least.{least-hit, least-le, count-none, count-zero, count-some}
+use Rattle.order.proofs.Least.{least-hit, least-le, count-zero, count-some}
 use Rattle.order.specs.Least.{least}
 use Rattle.order.specs.Sort.{Forward, LexLe, Smallest}
 use Rattle.walks.proofs.Walks.{reach-trans}
 use Rattle.walks.specs.Walks.{Reach, here, step, Closed}
 use Rattle.order.specs.Greedy.{waits, avail, next, rest, greedy}
-
-and-true-left : (a b : Bool) → (a && b) ≡ true → a ≡ true
-and-true-left true b e = refl
-and-true-left false b e = clash e refl
-
-and-true-right : (a b : Bool) → (a && b) ≡ true → b ≡ true
-and-true-right true b e = e
-and-true-right false b e = clash e refl
 
 module _ (E : ℕ → ℕ → Bool) (n : ℕ) where
   pub avail-new : (p : List ℕ) (v : ℕ) → avail E n p v ≡ true → memb v p ≡ false

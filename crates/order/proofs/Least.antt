@@ -59,11 +59,7 @@ unfolding least
 least-ext f g zero j h = refl
 least-ext f g (suc m) j h = rw (h j (omega arith) (omega arith), least-ext f g m (suc j) (λ i a b. h i (omega arith) (omega arith)))
 
--- a count is 0 exactly where nothing passes
-pub count-none : (p : ℕ → Bool) (n : ℕ) → ((i : ℕ) → i < n → p i ≡ false) → count p n ≡ 0
-count-none p zero h = refl
-count-none p (suc n) h = omega (arith, ap bit (h n (omega arith)), count-none p n (λ i l. h i (omega arith)))
-
+-- where a count is 0, nothing passes
 pub count-zero : (p : ℕ → Bool) (n : ℕ) → count p n ≡ 0 → (i : ℕ) → i < n → p i ≡ false
 count-zero p zero e i l = absurd (not-suc-le-zero l)
 count-zero p (suc n) e i l =

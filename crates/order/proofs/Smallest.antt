@@ -12,7 +12,7 @@ use Rattle.walks.proofs.Walks.{reach-keeps}
 use Rattle.walks.specs.Walks.{Closed}
 use Rattle.order.specs.Sort.{Forward, LexLe, Smallest}
 
-lex-antisym : (l k : List ℕ) → LexLe l k → LexLe k l → l ≡ k
+pub lex-antisym : (l k : List ℕ) → LexLe l k → LexLe k l → l ≡ k
 lex-antisym [] [] a b = refl
 lex-antisym [] (y ∷ k) a b = absurd b
 lex-antisym (x ∷ l) [] a b = absurd a

@@ -5,23 +5,19 @@ use Prim.Native.Nat.{ℕ, zero, suc, _+_, _*_, _≤_, _<_}
 use native.Mathlib.Nat.{le-antisymm, suc-mul}
 use native.Mathlib.Numerals.{add-one}
 use native.Mathlib.Omega.{arith}
-use lib.ListN.{length, set, length-append}
+use lib.ListN.{length, set}
 use Rattle.lists.specs.Lists.{over, flat, tab}
-use Rattle.lists.proofs.Tab.{tab-suc}
-use Rattle.lists.proofs.Flat.{flat-snoc}
+use Rattle.lists.proofs.Flat.{flat-more}
 use Rattle.lists.proofs.Chosen.{over-none, over-more}
 use Rattle.lookups.proofs.Laid.{Laid, laid-end}
 use Rattle.properties.specs.State.{Wrote}
 
 module _ {A : Type 0} (f : A → List ℕ) (g : ℕ → A) where
-  flat-more : (j : ℕ) → length (flat f (tab g (suc j))) ≡ length (flat f (tab g j)) + length (f (g j))
-  flat-more j = ap length (ap (flat f) (tab-suc g j) ∙ flat-snoc f (tab g j) (g j)) ∙ length-append (flat f (tab g j)) (f (g j))
-
   -- no block is above the most
   pub flat-most : (most n : ℕ) → ((i : ℕ) → i < n → length (f (g i)) ≤ most) → length (flat f (tab g n)) ≤ n * most
   unfolding flat tab
   flat-most most zero h = omega arith
-  flat-most most (suc n) h = omega (arith, flat-more n, flat-most most n (λ i l. h i (omega arith)), h n (omega arith), suc-mul n most)
+  flat-most most (suc n) h = omega (arith, flat-more f g n, flat-most most n (λ i l. h i (omega arith)), h n (omega arith), suc-mul n most)
 
 -- a loop over j that adds up the lengths of the blocks: c so far, none above the most
 pub record Totalled {A : Type 0} (f : A → List ℕ) (g : ℕ → A) (most j c : ℕ) : Type 0 where

@@ -8,9 +8,8 @@ use native.Mathlib.Omega.{arith}
 use lib.Dec.{eqb}
 use lib.ListN.{length, getD, take, drop, set, length-set, length-drop, getD-replicate}
 use lib.Seq.{getD-set-same, getD-set-other, take-all}
-use borrow.Author.Tests.{ne-eqb}
 use Rattle.lists.specs.Lists.{any, memb, filter}
-use Rattle.lists.proofs.Cases.{on-same}
+use Rattle.lists.proofs.Cases.{on-same, eqb-comm}
 use Rattle.layout.specs.Content.{Table, liveVertices, lists}
 use Rattle.layout.specs.Layout.{vertexLimit, hyperedgeAt, membersAt, read}
 use Rattle.layout.specs.WellFormed.{Formed}
@@ -47,9 +46,6 @@ trimmed-marked L ws ms j front back live old new e b =
 
 trimmed-whole : (ms : List ℕ) → trimmed 0 0 ms ≡ ms
 trimmed-whole ms = take-all (length ms - 0 - 0) ms (omega arith)
-
-eqb-comm : (a b : ℕ) → eqb a b ≡ eqb b a
-eqb-comm a b = on-same a b (λ e. rw e) (λ ne. ne-eqb a b ne ∙ sym (ne-eqb b a (λ q. ne (sym q))))
 
 -- the members after the first are stepped to
 trimmed-later : (v : ℕ) (ms : List ℕ) → memb v (drop 1 ms) ≡ any (hasEnd true v) (stepsOf ms)

@@ -14,7 +14,7 @@ use Rattle.lists.specs.Tests.{_and_, bit, count, chosen}
 use Rattle.lists.specs.Lists.{any, filter, flat, tab}
 use Rattle.lists.proofs.Cases.{on, on-same, clash, and-true, and-false-left}
 use Rattle.lists.proofs.Tab.{tab-suc, drop-tab, length-tab, getD-tab}
-use Rattle.lists.proofs.Count.{bit-le, count-ext, count-below}
+use Rattle.lists.proofs.Count.{bit-le, count-ext, count-below, count-none}
 use Rattle.lists.proofs.Filter.{filter-snoc}
 use Rattle.lists.proofs.Flat.{flat-snoc}
 use Rattle.layout.specs.Content.{Table}
@@ -83,10 +83,6 @@ filter-count {A} p g (suc n) =
     ∙ on (p (g n))
     (λ e. rw e (omega (arith, length-append (filter p (tab g n)) (g n ∷ []), filter-count p g n)))
     (λ e. rw e (omega (arith, filter-count p g n)))
-
-count-none : (p : ℕ → Bool) (n : ℕ) → ((i : ℕ) → i < n → p i ≡ false) → count p n ≡ 0
-count-none p zero h = refl
-count-none p (suc n) h = omega (arith, ap bit (h n (omega arith)), count-none p n (λ i l. h i (omega arith)))
 
 module _ {A : Type 0} (p : A → Bool) (g : ℕ → A) (n : ℕ) where
   none-any : count (λ j. p (g j)) n ≡ 0 → any p (tab g n) ≡ false

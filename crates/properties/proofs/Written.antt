@@ -14,9 +14,8 @@ use Rattle.layout.specs.Content.{liveVertices}
 use Rattle.layout.specs.Layout.{vertexCount, read}
 use Rattle.layout.specs.Answers.{result, listed}
 use Rattle.layout.proofs.Answers.{listed-over, listed-fits}
-use Rattle.layout.proofs.Read.{live-length}
 use Rattle.marks.specs.Marks.{isMarked, numberAt, marked}
-use Rattle.marks.proofs.Marked.{picked-length}
+use Rattle.marks.proofs.Marked.{picked-length, marked-are}
 use Rattle.properties.specs.Properties.{counted, twice}
 
 -- ys written into the part from k on, where the k words of xs end; the part was lent as exit
@@ -32,12 +31,8 @@ part-room mid k r l = rw (part-tail, length-drop) (omega arith)
 
 -- n is what `vertex_count` found, c what `count_marked` found
 module _ (L : ℕ) (ws : List ℕ) (marks : List Bool) (n c : ℕ) (e : n ≡ vertexCount ws) (q : c ≡ count (isMarked marks) n) where
-  marked-are : map (numberAt (liveVertices (read L ws))) (chosen (isMarked marks) n) ≡ marked marks (liveVertices (read L ws))
-  unfolding marked
-  marked-are = rw (e, live-length L ws)
-
   pub marked-count : c ≡ length (marked marks (liveVertices (read L ws)))
-  marked-count = q ∙ sym (picked-length (isMarked marks) (numberAt (liveVertices (read L ws))) n) ∙ ap length marked-are
+  marked-count = q ∙ sym (picked-length (isMarked marks) (numberAt (liveVertices (read L ws))) n) ∙ ap length (marked-are L ws marks n e)
 
   pub counted-length : c + 1 ≡ length (counted (marked marks (liveVertices (read L ws))))
   unfolding counted
@@ -58,7 +53,7 @@ module _ (L : ℕ) (ws : List ℕ) (marks : List Bool) (n c : ℕ) (e : n ≡ ve
     unfolding counted
     counted-wrote exit w =
         over-after (c ∷ []) _ out (set out 0 c) exit 1 refl (ap (λ (d : List ℕ). set d 0 c) (sym (over-none out)) ∙ over-more [] out c 0 refl counted-some) w
-        ∙ ap₂ (λ (k : ℕ) (xs : List ℕ). over (k ∷ xs) out) marked-count marked-are
+        ∙ ap₂ (λ (k : ℕ) (xs : List ℕ). over (k ∷ xs) out) marked-count (marked-are L ws marks n e)
 
     pub counted-same : (exit : List ℕ) → exit ≡ over (map (numberAt (liveVertices (read L ws))) (chosen (isMarked marks) n)) (take (length (set out 0 c) - 1) (drop 1 (set out 0 c)))
         → length (take 1 (set out 0 c) ++ (exit ++ drop (length (set out 0 c) - 1) (drop 1 (set out 0 c)))) ≡ length out

@@ -7,11 +7,12 @@ use native.Mathlib.Nat.{le-trans}
 use lib.Dec.{eqb}
 use borrow.Author.Tests.{ltb-false, le-ltb, ne-eqb}
 use Rattle.lists.specs.Tests.{_and_}
-use Rattle.lists.specs.Lists.{all, any, filter, otherThan}
-use Rattle.lists.proofs.Cases.{clash, and-left, and-right, or-right}
+use Rattle.lists.specs.Lists.{any, filter, otherThan}
+use Rattle.lists.proofs.Cases.{clash, and-left, or-right}
 use Rattle.lists.proofs.Kept.{map-ext, filter-ext, all-always, all-then, map-whole, filter-map, filter-length, filter-whole, filter-filter, filter-swap, filter-late, all-other}
-use Rattle.layout.specs.Content.{Vertex, Hyperedge, Table, vertexNumber, hyperedgeNumber, liveVertices, liveHyperedges, isLive, membersLive, valid}
+use Rattle.layout.specs.Content.{Vertex, Hyperedge, Table, vertexNumber, hyperedgeNumber, liveVertices, liveHyperedges, isLive, membersLive}
 use Rattle.layout.specs.WellFormed.{counted, holdable}
+use Rattle.layout.proofs.Holdable.{Holdable, holdable-of}
 use Rattle.edits.specs.Edits.{itself, without, hasMembers, removeVertex, removeHyperedge}
 use Rattle.edits.proofs.Holdable.{remove-vertex-holdable, remove-hyperedge-holdable}
 use Rattle.removals.specs.Orders.{Permutes, same, swap, behind, then}
@@ -84,12 +85,9 @@ withdrawn-first (hyperedge x) rs t = λ i. record {
 
 module _ (L : ℕ) (t : Table) (h : holdable L t ≡ true) where
   full : filter hasMembers (t .hyperedges) ≡ t .hyperedges
-  unfolding holdable counted hasMembers
-  full = filter-whole hasMembers (t .hyperedges) (all-then (counted L) hasMembers (t .hyperedges) (λ e k. and-left _ _ k) (and-left _ _ (and-right _ _ (and-right _ _ h))))
-
-  all-live : all (membersLive (liveVertices t)) (t .hyperedges) ≡ true
-  unfolding holdable valid
-  all-live = and-right _ _ (and-right _ _ (and-right _ _ (and-right _ _ (and-right _ _ h))))
+  unfolding counted hasMembers
+  full = let p : Holdable L t = holdable-of h in
+      filter-whole hasMembers (t .hyperedges) (all-then (counted L) hasMembers (t .hyperedges) (λ e k. and-left _ _ k) (p .counts))
 
   pub withdrawn-none : withdrawn [] t ≡ t
   unfolding withdrawn keptVertex keptHyperedge thinned staysVertex staysHyperedge any
@@ -114,11 +112,11 @@ module _ (L : ℕ) (t : Table) (h : holdable L t ≡ true) where
 
     pub vertex-dead : isLive (liveVertices t) v ≡ false → removeVertex v t ≡ t
     unfolding removeVertex
-    vertex-dead d = λ i. record {
+    vertex-dead d = let p : Holdable L t = holdable-of h in λ i. record {
       nextVertex = t .nextVertex;
       nextHyperedge = t .nextHyperedge;
       vertices = filter-whole (otherThan vertexNumber v) (t .vertices) (all-other vertexNumber v (t .vertices) d) i;
-      hyperedges = (ap (filter hasMembers) (map-whole (without v) (membersLive (liveVertices t)) (t .hyperedges) (without-dead d) all-live) ∙ full) i;
+      hyperedges = (ap (filter hasMembers) (map-whole (without v) (membersLive (liveVertices t)) (t .hyperedges) (without-dead d) (p .members-live)) ∙ full) i;
     }
 
     pub hyperedge-dead : isLive (liveHyperedges t) v ≡ false → removeHyperedge v t ≡ t

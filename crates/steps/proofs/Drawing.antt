@@ -29,7 +29,7 @@ use Rattle.steps.proofs.Holds.{holds-ext, holds-none, holds-putting}
 
 -- ---- a relation that grows by a step
 
-and-swap : (a b : Bool) → (a and b) ≡ (b and a)
+pub and-swap : (a b : Bool) → (a and b) ≡ (b and a)
 unfolding _and_
 and-swap true true = refl
 and-swap true false = refl
@@ -50,7 +50,7 @@ both-more true true false true false r = refl
 both-more true true false false s r = refl
 
 -- the records of two numbers are one where the numbers are
-same-record : (live : List ℕ) → Ascending live → (x a i : ℕ) → position x live ≡ At a → i < length live → eqb x (getD live i 0) ≡ eqb i a
+pub same-record : (live : List ℕ) → Ascending live → (x a i : ℕ) → position x live ≡ At a → i < length live → eqb x (getD live i 0) ≡ eqb i a
 same-record live asc x a i e h =
     let p = position-found x live a e in
     on-same i a

@@ -7,21 +7,18 @@ use native.Mathlib.Omega.{arith}
 use Rattle.lists.specs.Tests.{_and_}
 use Rattle.depth.specs.Dfs.{St, unmarked, mark, enlist, tried, tries, visits}
 use Rattle.depth.specs.Finish.{start, sweep, blank, finished}
+use Rattle.depth.proofs.Dfs.{tried-ext}
 use Rattle.components.specs.Classes.{reached, classes}
 use Rattle.components.proofs.Roots.{classes-ext}
 use Rattle.strong.specs.Strong.{shared, latestFirst, strong}
 use Rattle.strong.proofs.Latest.{latest-below}
 
 module _ (E F : ℕ → ℕ → Bool) (n : ℕ) (h : (i j : ℕ) → i < n → j < n → E i j ≡ F i j) where
-  tried-ext : (v w : ℕ → St → St) → ((k : ℕ) (s : St) → k < n → v k s ≡ w k s) → (x k : ℕ) (s : St) → x < n → k < n → tried E v x k s ≡ tried F w x k s
-  unfolding tried
-  tried-ext v w e x k s lx lk = rw (h x k lx lk, e k s lk)
-
   tries-ext : (v w : ℕ → St → St) → ((k : ℕ) (s : St) → k < n → v k s ≡ w k s) → (x k : ℕ) (s : St) → x < n → k ≤ n → tries E v x k s ≡ tries F w x k s
   unfolding tries
   tries-ext v w e x zero s lx lk = refl
   tries-ext v w e x (suc k) s lx lk =
-      ap (tries E v x k) (tried-ext v w e x k s lx (omega arith)) ∙ tries-ext v w e x k (tried F w x k s) lx (omega arith)
+      ap (tries E v x k) (tried-ext E F n h v w e x k s lx (omega arith)) ∙ tries-ext v w e x k (tried F w x k s) lx (omega arith)
 
   visits-ext : (f x : ℕ) (s : St) → x < n → visits E n f x s ≡ visits F n f x s
   unfolding visits

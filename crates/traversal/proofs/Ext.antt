@@ -15,6 +15,7 @@ use Rattle.graph.proofs.Bfs.{spread-keeps}
 use Rattle.depth.specs.Dfs.{St, tried}
 use Rattle.depth.specs.Finish.{blank}
 use Rattle.depth.specs.Pre.{enter, climbs, walks, preorder}
+use Rattle.depth.proofs.Dfs.{tried-ext}
 
 module _ (E F : ℕ → ℕ → Bool) (n : ℕ) (h : (i j : ℕ) → i < n → j < n → E i j ≡ F i j) where
   spread-ext : (x : ℕ) → x < n → (m j : ℕ) (q : List ℕ) → j + m ≤ n → spread E x m j q ≡ spread F x m j q
@@ -39,15 +40,11 @@ module _ (E F : ℕ → ℕ → Bool) (n : ℕ) (h : (i j : ℕ) → i < n → j
   unfolding bfs
   bfs-ext s l = run-ext n 0 (s ∷ []) (l, tt)
 
-  tried-ext : (v w : ℕ → St → St) → ((k : ℕ) (s : St) → k < n → v k s ≡ w k s) → (x k : ℕ) (s : St) → x < n → k < n → tried E v x k s ≡ tried F w x k s
-  unfolding tried
-  tried-ext v w g x k s lx lk = rw (h x k lx lk, g k s lk)
-
   climbs-ext : (v w : ℕ → St → St) → ((k : ℕ) (s : St) → k < n → v k s ≡ w k s) → (x : ℕ) → x < n → (m j : ℕ) (s : St) → j + m ≤ n → climbs E v x m j s ≡ climbs F w x m j s
   unfolding climbs
   climbs-ext v w g x lx zero j s b = refl
   climbs-ext v w g x lx (suc m) j s b =
-      ap (climbs E v x m (suc j)) (tried-ext v w g x j s lx (omega arith)) ∙ climbs-ext v w g x lx m (suc j) (tried F w x j s) (omega arith)
+      ap (climbs E v x m (suc j)) (tried-ext E F n h v w g x j s lx (omega arith)) ∙ climbs-ext v w g x lx m (suc j) (tried F w x j s) (omega arith)
 
   walks-ext : (f x : ℕ) (s : St) → x < n → walks E n f x s ≡ walks F n f x s
   unfolding walks

@@ -1,8 +1,9 @@
 -- `depth::hindered` meets its contract. Assumes nothing.
-use Rattle.depth.proofs.Dfs.{byte-le, hindered-is}
+use Rattle.depth.proofs.Dfs.{hindered-is}
 use mathlib.Core.Bool.{not}
 use native.Mathlib.Omega.{arith}
 use lib.Dec.{eqb}
+use Rattle.graph.proofs.Outside.{byte-le}
 use borrow.Author.Needs.{needs}
 use Rattle.depth.proofs.hindered.Statement.{statement}
 use Rattle.depth.proofs.hindered.Tie as tie
