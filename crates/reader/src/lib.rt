@@ -1,36 +1,37 @@
 // Frame text read back: a reader that holds the text and its place walks the lines, and a table is made of what stands in them.
 ghost use mathlib.Core.Path.{_≡_};
-ghost use mathlib.Core.Bool.{true};
 ghost use mathlib.Core.List.{[], _∷_};
 ghost use Prim.Native.Nat.{_+_, _*_, _<_, _≤_};
-ghost use lib.ListN.{length, replicate};
-ghost use Rattle.lists.specs.Lists.{all, tab, pad};
+ghost use lib.ListN.{length};
+ghost use Rattle.lists.specs.Lists.{tab};
 ghost use Rattle.layout.specs.Content.{isLive};
-ghost use Rattle.layout.specs.Layout.{limit, recordSize, vertexWords, hyperedgeWords};
+ghost use Rattle.layout.specs.Layout.{limit, vertexLimit, size, vertexWords};
 ghost use Rattle.layout.specs.WellFormed.{vertexColumn};
+ghost use Rattle.layout.specs.Answers.{result};
 ghost use Rattle.frames.specs.Frames.{vertexOf};
 ghost use Rattle.frames.specs.Put.{Put};
-ghost use Rattle.frames.specs.Reading.{noValue, value, byteAt, shortAt, numberAt, numberIn, weightIn, countIn, memberIn, hyperedgeFrom, standsAt};
+ghost use Rattle.frames.specs.Reading.{noValue, value, byteAt, shortAt, numberAt, numberIn, weightIn, memberIn, standsAt, readResult};
 ghost use Rattle.reader.specs.Lines.{Valued, frameSum, lineEnd, sealedAt, Sealed, countsFit, numberFits, vertexFits};
-ghost use Rattle.reader.specs.Passes.{Live};
+ghost use Rattle.reader.specs.Passes.{Live, storedRead, answerOf};
 use layout::Answer;
 use layout::Found;
+
+mod head;
+mod hyperedges;
+mod text;
+mod vertices;
 
 // How many values a byte has.
 const BYTE_VALUES: usize = 256;
 
-// The bytes of a frame, with its last: of the head, of a vertex, of a hyperedge with no member, and of a member.
-const HEAD_BYTES: usize = 16;
-
+// The bytes of a frame, with its last: of a vertex, of a hyperedge with no member, and of a member.
 const VERTEX_BYTES: usize = 10;
 
 const HYPEREDGE_BYTES: usize = 11;
 
 const MEMBER_BYTES: usize = 4;
 
-// The digits of a head line with its line feed, of a member, and of a hyperedge line with no member.
-const HEAD_LENGTH: usize = 33;
-
+// The digits of a member, and of a hyperedge line with no member and with its line feed.
 const MEMBER_LENGTH: usize = 8;
 
 const HYPEREDGE_LENGTH: usize = 23;
@@ -46,12 +47,6 @@ const MEMBERS_AT: usize = 20;
 
 // ---- digits
 
-fn wide(x: u8) -> usize
-    ensures { λ r. ⌜ r ≡ x ⌝ }
-{
-    x as usize
-}
-
 fn wide_value(x: u16) -> usize
     ensures { λ r. ⌜ r ≡ x ⌝ }
 {
@@ -65,8 +60,8 @@ fn value_table() -> [u16; 256]
     let mut values = [256u16; 256];
     let mut k = 0;
     while k < 16 {
-        let c = wide(frames::digit(k));
-        values[c] = k as u16;
+        let c = frames::digit(k);
+        values[c as usize] = k as u16;
         k += 1;
     }
     values
@@ -264,7 +259,25 @@ fn sealed_vertex_fits(values: &[u16; 256], text: &[u8], at: usize, low: usize, h
     number_fits(number_at(values, text, at + NUMBER_AT), low, high)
 }
 
-// The vertex x is among those whose records stand in the words. Where as many are live as numbers were given, its number is its place.
+// Where x stands among the vertices, if it does, by eight steps that do not wait for one another's outcome: a hint, of which nothing
+// more is promised. No step looks at the first record, so a number of 0 is that of an unused one, and less 1 it is above all others.
+fn place_near(words: &[u32], x: u32) -> usize
+    requires { ⌜ length (now words) ≡ size limit ⌝ }
+    ensures { λ r. ⌜ r < vertexLimit ⌝ }
+{
+    let mut p = 0;
+    let mut half = 128;
+    while 0 < half {
+        if std::num::wrapping_sub_u32(layout::vertex_number(words, p + half), 1) < x {
+            p += half;
+        }
+        half /= 2;
+    }
+    p
+}
+
+// The vertex x is among those whose records stand in the words. Where as many are live as numbers were given, its number is its
+// place; else it stands where the hint says, or a search decides.
 fn is_live(words: &[u32], x: usize) -> bool
     requires { ⌜ Live (now words) ⌝ }
     requires { ⌜ x < 4294967296 ⌝ }
@@ -274,6 +287,12 @@ fn is_live(words: &[u32], x: usize) -> bool
     if wide_word(layout::next_vertex(words)) == n {
         return x < n;
     }
+    let p = place_near(words, x as u32);
+    if p < n {
+        if wide_word(layout::vertex_number(words, p)) == x {
+            return true;
+        }
+    }
     let found = layout::find_number(words, layout::VERTICES_AT, layout::VERTEX_SIZE, n, x as u32);
     match found {
         Found::At(_) => true,
@@ -281,28 +300,10 @@ fn is_live(words: &[u32], x: usize) -> bool
     }
 }
 
-// Each of the k members of the hyperedge line at the place is live.
-fn members_live(values: &[u16; 256], text: &[u8], at: usize, k: usize, words: &[u32]) -> bool
-    requires { ⌜ Valued (now values) ⌝ }
-    requires { ⌜ Live (now words) ⌝ }
-    requires { ⌜ Sealed (now text) at (11 + k * 4) × (k ≤ limit) ⌝ }
-    ensures { λ r. ⌜ r ≡ all (isLive (vertexColumn (now (words .entry)))) (tab (memberIn (now (text .entry)) at) k) ⌝ }
-{
-    let mut i = 0;
-    while i < k {
-        let x = number_at(values, text, at + MEMBERS_AT + i * MEMBER_LENGTH);
-        if !is_live(words, x) {
-            return false;
-        }
-        i += 1;
-    }
-    true
-}
-
 // ---- words
 
 fn wide_word(x: u32) -> usize
-    ensures { λ r. ⌜ r ≡ x ⌝ }
+    ensures { λ r. ⌜ (r ≡ x) × (r < 4294967296) ⌝ }
 {
     x as usize
 }
@@ -347,53 +348,49 @@ fn put_members(
     next
 }
 
-fn put_zeros(words: &mut [u32], to: usize, k: usize) -> usize
-    requires { ⌜ to + k ≤ length (now words) ⌝ }
-    ensures { λ r. ⌜ Put to k (replicate k 0) (now (words .entry)) (now (words .exit)) r ⌝ }
+// ---- reading
+
+fn copy_words(t: &mut [u32], words: &[u32])
+    requires { ⌜ length (now t) ≡ length (now words) ⌝ }
+    ensures { λ _. ⌜ now (t .exit) ≡ now (words .entry) ⌝ }
 {
-    let mut next = to;
     let mut i = 0;
-    while i < k {
-        next = put_word(words, next, 0);
+    while i < words.len() {
+        t[i] = words[i];
         i += 1;
     }
-    next
 }
 
-// Stores the member list of the hyperedge line: its count, its members, and 0 in the words behind them.
-fn put_list(
-    words: &mut [u32],
-    to: usize,
-    values: &[u16; 256],
-    text: &[u8],
-    at: usize,
-    k: usize,
-) -> usize
-    requires { ⌜ Valued (now values) ⌝ }
-    requires { ⌜ Sealed (now text) at (11 + k * 4) × (k ≤ limit) ⌝ }
-    requires { ⌜ to + (1 + limit) ≤ length (now words) ⌝ }
-    ensures { λ r. ⌜ Put to (1 + limit) (k ∷ pad limit (tab (memberIn (now (text .entry)) at) k)) (now (words .entry)) (now (words .exit)) r ⌝ }
+// Copies the words where no line is faulty.
+fn store_read(t: &mut [u32], words: &[u32], line: usize)
+    requires { ⌜ length (now t) ≡ length (now words) ⌝ }
+    ensures { λ _. ⌜ now (t .exit) ≡ storedRead line (now (words .entry)) (now (t .entry)) ⌝ }
 {
-    let a = put_word(words, to, k);
-    let b = put_members(words, a, values, text, at, k);
-    put_zeros(words, b, layout::MEMBER_LIMIT - k)
+    if 0 < line {
+        return;
+    }
+    copy_words(t, words);
 }
 
-// Stores the hyperedge whose line stands at the place.
-fn put_hyperedge(
-    words: &mut [u32],
-    to: usize,
-    values: &[u16; 256],
-    text: &[u8],
-    at: usize,
-    k: usize,
-) -> usize
-    requires { ⌜ Valued (now values) ⌝ }
-    requires { ⌜ Sealed (now text) at (11 + k * 4) × ((k ≡ countIn (now text) at) × (k ≤ limit)) ⌝ }
-    requires { ⌜ to + recordSize limit ≤ length (now words) ⌝ }
-    ensures { λ r. ⌜ Put to (recordSize limit) (hyperedgeWords limit (hyperedgeFrom (now (text .entry)) at)) (now (words .entry)) (now (words .exit)) r ⌝ }
+// The answer for the faulty line, or for none.
+fn answer_of(line: usize) -> Answer
+    ensures { λ r. ⌜ r ≡ answerOf line ⌝ }
 {
-    let a = put_word(words, to, number_at(values, text, at + NUMBER_AT));
-    let b = put_word(words, a, number_at(values, text, at + WEIGHT_AT));
-    put_list(words, b, values, text, at, k)
+    if line == 0 {
+        return Answer::Done(0);
+    }
+    Answer::BadText(line)
+}
+
+// Reads frame text into a table: 12 with the first line that no written text could have there, which changes no word.
+pub fn read_frames(t: &mut [u32], text: &[u8]) -> Answer
+    ensures { λ r. ⌜ result r (now (t .exit)) ≡ readResult (now (text .entry)) (now (t .entry)) ⌝ }
+{
+    if t.len() != layout::SIZE {
+        return Answer::NotWellFormed;
+    }
+    let mut words = [0u32; layout::SIZE];
+    let line = text::read_text(&mut words, text);
+    store_read(t, &words, line);
+    answer_of(line)
 }
