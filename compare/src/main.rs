@@ -3,8 +3,10 @@
 mod calls;
 mod draw;
 mod oracle;
+mod record;
 
 use std::collections::BTreeMap;
+use std::path::Path;
 
 use calls::{Both, Edit, Query, name};
 use draw::Draw;
@@ -278,7 +280,13 @@ fn all_lists(n: u32, longest: usize) -> Vec<Vec<u32>> {
 }
 
 fn main() {
-    let seed = std::env::args().nth(1).and_then(|s| s.parse().ok()).unwrap_or(1);
+    let words: Vec<String> = std::env::args().skip(1).collect();
+    let seed_at = |place: usize| words.get(place).and_then(|s| s.parse().ok()).unwrap_or(1);
+    if words.first().is_some_and(|word| word == "record") {
+        record::write(Path::new(&words[1]), seed_at(2));
+        return;
+    }
+    let seed = seed_at(0);
     let mut draw = Draw::new(seed);
     let mut run = Run {
         counts: BTreeMap::new(),
