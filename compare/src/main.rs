@@ -1,6 +1,8 @@
 //! Runs the proved code and the Rust on the same inputs and prints, for each function, how many answers were compared and how many
 //! differed; for each difference the smallest input that was found.
+mod bench;
 mod calls;
+mod differences;
 mod draw;
 mod oracle;
 
@@ -278,7 +280,14 @@ fn all_lists(n: u32, longest: usize) -> Vec<Vec<u32>> {
 }
 
 fn main() {
-    let seed = std::env::args().nth(1).and_then(|s| s.parse().ok()).unwrap_or(1);
+    match std::env::args().nth(1).as_deref() {
+        Some("bench") => bench::run(),
+        Some("differences") => differences::run(),
+        asked => compare(asked.and_then(|s| s.parse().ok()).unwrap_or(1)),
+    }
+}
+
+fn compare(seed: u64) {
     let mut draw = Draw::new(seed);
     let mut run = Run {
         counts: BTreeMap::new(),
