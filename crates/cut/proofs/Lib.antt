@@ -3,4 +3,3 @@ pub mod Searching
 pub mod Gathering
 pub mod Removed
 pub mod Cuts
-pub mod Sheet

@@ -6,4 +6,4 @@ pub mod Laid
 pub mod Tally
 pub mod Full
 pub mod Weights
-pub mod Sheet
+pub mod Adjacency

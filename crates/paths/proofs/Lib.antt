@@ -4,5 +4,4 @@ pub mod Lightest
 pub mod Numbers
 pub mod Writing
 pub mod Answers
-pub mod Sheet
 pub mod Theorems

@@ -6,5 +6,4 @@ pub mod SetRows
 pub mod Blocks
 pub mod Pairs
 pub mod Rows
-pub mod Sheet
 pub mod Ties

@@ -38,21 +38,14 @@ filled-none = record {
   known = λ c h. blank 256 256 c h ∙ sym (ap (λ (b : Bool). cond b (value c) noValue) (le-ltb (value c) 0 (omega arith)));
 }
 
-pub digit-low : (k c d : ℕ) → k < 16 → d ≡ digit k → c ≡ d → c < 256
-unfolding digit
-digit-low k c d h e f =
-    on-below k 10
-    (λ l. let g : d ≡ 48 + k = rw (lt-ltb k 10 l) at e in omega arith)
-    (λ l. let g : d ≡ 55 + k = rw (le-ltb k 10 l) at e in omega arith)
-
-module _ (values : List ℕ) (k : ℕ) (f : Filled values k) (h : k < 16) (c d : ℕ) (e : d ≡ digit k) (q : c ≡ d) where
+module _ (values : List ℕ) (k : ℕ) (f : Filled values k) (h : k < 16) (c : ℕ) (low : c < 256) (e : c ≡ digit k) where
   others : (x : ℕ) → (x ≡ c → ⊥) → ltb (value x) k ≡ ltb (value x) (k + 1)
   others x n =
       ⊎-elim
       (λ v. on-below (value x) k
       (λ l. lt-ltb (value x) k l ∙ sym (lt-ltb (value x) (k + 1) (omega arith)))
       (λ l. on-same (value x) k
-      (λ s. absurd (n (sym (v .1) ∙ ap digit s ∙ sym e ∙ sym q)))
+      (λ s. absurd (n (sym (v .1) ∙ ap digit s ∙ sym e)))
       (λ s. le-ltb (value x) k l ∙ sym (le-ltb (value x) (k + 1) (omega arith)))))
       (λ v. le-ltb (value x) k (omega arith) ∙ sym (le-ltb (value x) (k + 1) (omega arith)))
       (value-cases x)
@@ -62,7 +55,7 @@ module _ (values : List ℕ) (k : ℕ) (f : Filled values k) (h : k < 16) (c d :
     sized = length-set values c k ∙ f .sized;
     known = λ x l. on-same x c
         (λ s.
-        let v : value x ≡ k = ap value (s ∙ q ∙ e) ∙ value-digit k h in
+        let v : value x ≡ k = ap value (s ∙ e) ∙ value-digit k h in
         rw (s, getD-set-same values c k 0 (omega (arith, f .sized)), ← s, v, lt-ltb k (k + 1) (omega arith)) refl)
         (λ s. rw (getD-set-other values c x k 0 s, ← others x s) (f .known x l));
   }

@@ -50,7 +50,7 @@ module _ (text : List ℕ) (p k r : ℕ) (e : r ≡ lineEnd text p (k * 2 + 1)) 
         (on (all (isBelow byteValues) (bytesAt text p k)) (λ t. rw t) (λ t. rw t))
 
 -- what a frame that is one is known to be
-sealed-is : (text : List ℕ) (p k : ℕ) → sealedAt text p k ≡ true → Sealed text p k
+pub sealed-is : (text : List ℕ) (p k : ℕ) → sealedAt text p k ≡ true → Sealed text p k
 unfolding sealedAt
 sealed-is text p k e = record { room = leb-true _ _ (and-left _ _ e); low = and-left _ _ (and-right _ _ (and-right _ _ e)); is = e }
 

@@ -5,3 +5,12 @@ pub mod Frame
 pub mod Words
 pub mod Live
 pub mod Records
+pub mod HyperedgeLine
+pub mod Numbers
+pub mod Pasted
+pub mod HeadLine
+pub mod VertexLines
+pub mod Verdict
+pub mod Made
+pub mod Texts
+pub mod HyperedgeLines

@@ -9,14 +9,15 @@ use native.Mathlib.Omega.{arith}
 use lib.Dec.{ltb}
 use lib.ListN.{length, getD}
 use borrow.Author.Tests.{not-true, not-false}
-use Rattle.lists.specs.Lists.{all, tab, Ascending}
+use Rattle.lists.specs.Lists.{all, memb, tab, Ascending}
 use Rattle.lists.proofs.Cases.{on, clash, and-both}
 use Rattle.lists.proofs.All.{all-at, all-snoc}
+use Rattle.lists.proofs.Memb.{memb-getD}
 use Rattle.lists.proofs.Tab.{length-tab, getD-tab, tab-suc}
 use Rattle.layout.specs.declared.Found.{Found}
 use Rattle.layout.specs.declared.Found.the-variants.{At, Nothing}
 use Rattle.layout.specs.Content.{position, isLive}
-use Rattle.layout.specs.Layout.{verticesAt, vertexSize, vertexCount, nextVertexIn}
+use Rattle.layout.specs.Layout.{verticesAt, vertexSize, vertexWord, vertexCount, nextVertexIn}
 use Rattle.layout.specs.WellFormed.{column, vertexColumn}
 use Rattle.layout.proofs.Position.{found-live, missing-dead, dense-live}
 use Rattle.reader.specs.Passes.{Live}
@@ -33,6 +34,12 @@ module _ (ws : List ℕ) (n : ℕ) (l : Live ws) (e : n ≡ vertexCount ws) wher
       let k : i < vertexCount ws = omega arith in
       let b = l .below i k in
       rw (len, getD-tab (λ j. getD ws (verticesAt + j * vertexSize) 0) (vertexCount ws) i 0 k) (omega arith)))
+
+  pub live-near : (x p y w : ℕ) → p < n → y ≡ getD ws (vertexWord p) 0 → w ≡ y → w ≡ x → true ≡ isLive (vertexColumn ws) x
+  live-near x p y w h f u g =
+      let k : p < vertexCount ws = rw (← e) h in
+      let z : getD (vertexColumn ws) p 0 ≡ x = getD-tab (λ j. getD ws (verticesAt + j * vertexSize) 0) (vertexCount ws) p 0 k ∙ sym f ∙ sym u ∙ g in
+      sym (ap (λ (i : ℕ). memb i (vertexColumn ws)) (sym z) ∙ memb-getD (vertexColumn ws) p (rw length-tab k))
 
   module _ (x : ℕ) (p : Found) (q : p ≡ position x (column ws verticesAt vertexSize n)) where
     pub live-found : (i : ℕ) → p ≡ At i → true ≡ isLive (vertexColumn ws) x

@@ -6,7 +6,7 @@ use Prim.Native.Nat.{ℕ, suc, _+_, _*_, _%_, _≤_}
 use native.Mathlib.Nat.{add-zero}
 use native.Mathlib.Omega.{arith}
 use lib.ListN.{length, getD}
-use borrow.Author.Tests.{le-leb, leb-true, eq-eqb, eqb-true, lt-ltb, not-true}
+use borrow.Author.Tests.{le-leb, leb-true, eq-eqb, eqb-true, lt-ltb, not-true, not-false}
 use Rattle.lists.specs.Tests.{_and_}
 use Rattle.lists.specs.Lists.{all, isBelow}
 use Rattle.lists.proofs.Cases.{on, clash, and-left, and-right, and-both}
@@ -16,13 +16,14 @@ use Rattle.frames.specs.Bytes.{bytesAt}
 use Rattle.frames.proofs.Lines.{sealed-sum}
 use Rattle.frames.proofs.Parse.{bytes-at, bytes-append, bytes-front, number-bytes, line-stands, line-parts, sealed-low}
 use Rattle.reader.specs.Lines.{sealedAt, Sealed, numberFits, vertexFits}
+use Rattle.reader.proofs.Frame.{sealed-is}
 
-low-append : (xs ys : List ℕ) → all (isBelow byteValues) xs ≡ true → all (isBelow byteValues) ys ≡ true → all (isBelow byteValues) (xs ++ ys) ≡ true
+pub low-append : (xs ys : List ℕ) → all (isBelow byteValues) xs ≡ true → all (isBelow byteValues) ys ≡ true → all (isBelow byteValues) (xs ++ ys) ≡ true
 unfolding all
 low-append [] ys a b = b
 low-append (x ∷ xs) ys a b = and-both _ _ (and-left _ _ a) (low-append xs ys (and-right _ _ a) b)
 
-low-number : (x : ℕ) → all (isBelow byteValues) (numberBytes x) ≡ true
+pub low-number : (x : ℕ) → all (isBelow byteValues) (numberBytes x) ≡ true
 unfolding all numberBytes
 low-number x =
     and-both _ _ (lt-ltb (byteOf x 16777216) byteValues (omega arith)) (and-both _ _ (lt-ltb (byteOf x 65536) byteValues (omega arith))
@@ -30,7 +31,7 @@ low-number x =
 
 -- a frame of bytes: its line stands exactly where the test of a frame passes, and its bytes are those
 module _ (text : List ℕ) (p : ℕ) (fr : List ℕ) where
-  frame-sealed : p ≤ length text → all (isBelow byteValues) fr ≡ true → standsAt text p (line fr) ≡ true
+  pub frame-sealed : p ≤ length text → all (isBelow byteValues) fr ≡ true → standsAt text p (line fr) ≡ true
       → (sealedAt text p (suc (length fr)) ≡ true) × (bytesAt text p (suc (length fr)) ≡ sealed fr)
   unfolding sealedAt
   frame-sealed h low st =
@@ -40,16 +41,16 @@ module _ (text : List ℕ) (p : ℕ) (fr : List ℕ) where
         q .0,
       )
 
-  frame-stands : sealedAt text p (suc (length fr)) ≡ true → fr ≡ bytesAt text p (length fr) → standsAt text p (line fr) ≡ true
+  pub frame-stands : sealedAt text p (suc (length fr)) ≡ true → fr ≡ bytesAt text p (length fr) → standsAt text p (line fr) ≡ true
   unfolding sealedAt
   frame-stands s e =
       line-stands text p fr (leb-true _ _ (and-left _ _ s)) (eqb-true _ _ (and-left _ _ (and-right _ _ s)))
       (and-left _ _ (and-right _ _ (and-right _ _ s))) (eqb-true _ _ (and-right _ _ (and-right _ _ (and-right _ _ s)))) e
 
-within : {text : List ℕ} {p k : ℕ} → Sealed text p k → p ≤ length text
+pub within : {text : List ℕ} {p k : ℕ} → Sealed text p k → p ≤ length text
 within s = omega (arith, s .room)
 
-first : (text : List ℕ) (p k : ℕ) → byteAt text p ∷ bytesAt text (p + 2) k ≡ bytesAt text p (suc k)
+pub first : (text : List ℕ) (p k : ℕ) → byteAt text p ∷ bytesAt text (p + 2) k ≡ bytesAt text p (suc k)
 unfolding bytesAt
 first text p k = refl
 
@@ -98,3 +99,11 @@ module _ (text : List ℕ) (p low high : ℕ) where
   pub vertex-rest : (b x : ℕ) (r : Bool) → Sealed text p 10 → b ≡ byteAt text p → b ≡ 1 → x ≡ numberIn text p → r ≡ numberFits x low high → r ≡ vertexFits text p low high
   unfolding vertexFits _and_
   vertex-rest b x r s e o q f = rw (vertex-stands s (sym e ∙ o)) (f ∙ ap (λ (y : ℕ). numberFits y low high) q)
+
+  -- a vertex that fits has a frame
+  pub vertex-framed : (r : Bool) → p ≤ length text → r ≡ vertexFits text p low high → not r ≡ false → Sealed text p 10
+  unfolding vertexFits
+  vertex-framed r h e n = sealed-is text p 10 (vertex-sealed h (and-left _ _ (sym e ∙ not-false r n)) .0)
+
+  pub vertex-number-room : (r : Bool) → p ≤ length text → r ≡ vertexFits text p low high → not r ≡ false → p + 2 + 8 ≤ length text
+  vertex-number-room r h e n = omega (arith, vertex-framed r h e n .room)

@@ -2,7 +2,7 @@
 use mathlib.Core.Path.{_≡_}
 use mathlib.Core.Bool.{Bool, true, cond, _||_}
 use mathlib.Core.List.{List}
-use Prim.Native.Nat.{ℕ, _+_, _*_, _-_, _%_, _≤_, _<_}
+use Prim.Native.Nat.{ℕ, zero, suc, _+_, _*_, _-_, _%_, _≤_, _<_}
 use lib.Dec.{eqb, leb, ltb}
 use lib.ListN.{length, getD}
 use Rattle.lists.specs.Tests.{_and_}
@@ -48,6 +48,11 @@ countsFit n m nextVertex nextHyperedge =
     and leb n nextVertex
     and leb m nextHyperedge
     and (eqb m 0 || ltb 0 n)
+
+-- the least number that record i may have: 0, or one above the record before it
+unfoldable pub lowest : (ℕ → ℕ) → ℕ → ℕ
+lowest number zero = 0
+lowest number (suc i) = number i + 1
 
 -- a number from low to high
 unfoldable pub numberFits : ℕ → ℕ → ℕ → Bool

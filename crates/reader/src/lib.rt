@@ -6,31 +6,33 @@ ghost use Prim.Native.Nat.{_+_, _*_, _<_, _≤_};
 ghost use lib.ListN.{length, replicate};
 ghost use Rattle.lists.specs.Lists.{all, tab, pad};
 ghost use Rattle.layout.specs.Content.{isLive};
-ghost use Rattle.layout.specs.Layout.{limit, recordSize, vertexWords, hyperedgeWords};
+ghost use Rattle.layout.specs.Layout.{limit, vertexLimit, size, recordSize, vertexWords, hyperedgeWords};
 ghost use Rattle.layout.specs.WellFormed.{vertexColumn};
+ghost use Rattle.layout.specs.Answers.{result};
 ghost use Rattle.frames.specs.Frames.{vertexOf};
 ghost use Rattle.frames.specs.Put.{Put};
-ghost use Rattle.frames.specs.Reading.{noValue, value, byteAt, shortAt, numberAt, numberIn, weightIn, countIn, memberIn, hyperedgeFrom, standsAt};
+ghost use Rattle.frames.specs.Reading.{noValue, value, byteAt, shortAt, numberAt, numberIn, weightIn, countIn, memberIn, hyperedgeFrom, standsAt, readResult};
 ghost use Rattle.reader.specs.Lines.{Valued, frameSum, lineEnd, sealedAt, Sealed, countsFit, numberFits, vertexFits};
-ghost use Rattle.reader.specs.Passes.{Live};
+ghost use Rattle.reader.specs.Passes.{Live, storedRead, answerOf};
 use layout::Answer;
 use layout::Found;
+
+mod head;
+mod hyperedges;
+mod text;
+mod vertices;
 
 // How many values a byte has.
 const BYTE_VALUES: usize = 256;
 
-// The bytes of a frame, with its last: of the head, of a vertex, of a hyperedge with no member, and of a member.
-const HEAD_BYTES: usize = 16;
-
+// The bytes of a frame, with its last: of a vertex, of a hyperedge with no member, and of a member.
 const VERTEX_BYTES: usize = 10;
 
 const HYPEREDGE_BYTES: usize = 11;
 
 const MEMBER_BYTES: usize = 4;
 
-// The digits of a head line with its line feed, of a member, and of a hyperedge line with no member.
-const HEAD_LENGTH: usize = 33;
-
+// The digits of a member, and of a hyperedge line with no member and with its line feed.
 const MEMBER_LENGTH: usize = 8;
 
 const HYPEREDGE_LENGTH: usize = 23;
@@ -46,12 +48,6 @@ const MEMBERS_AT: usize = 20;
 
 // ---- digits
 
-fn wide(x: u8) -> usize
-    ensures { λ r. ⌜ r ≡ x ⌝ }
-{
-    x as usize
-}
-
 fn wide_value(x: u16) -> usize
     ensures { λ r. ⌜ r ≡ x ⌝ }
 {
@@ -65,8 +61,8 @@ fn value_table() -> [u16; 256]
     let mut values = [256u16; 256];
     let mut k = 0;
     while k < 16 {
-        let c = wide(frames::digit(k));
-        values[c] = k as u16;
+        let c = frames::digit(k);
+        values[c as usize] = k as u16;
         k += 1;
     }
     values
@@ -264,7 +260,26 @@ fn sealed_vertex_fits(values: &[u16; 256], text: &[u8], at: usize, low: usize, h
     number_fits(number_at(values, text, at + NUMBER_AT), low, high)
 }
 
-// The vertex x is among those whose records stand in the words. Where as many are live as numbers were given, its number is its place.
+// Where x stands among the n vertices, if it does, by steps that do not wait for one another's outcome: a hint, of which nothing
+// more is promised.
+fn place_near(words: &[u32], n: usize, x: u32) -> usize
+    requires { ⌜ (length (now words) ≡ size limit) × (n ≤ vertexLimit) ⌝ }
+    ensures { λ r. ⌜ r ≤ n ⌝ }
+{
+    let mut p = 0;
+    let mut rest = n;
+    while 1 < rest {
+        let half = rest / 2;
+        if layout::vertex_number(words, p + half) <= x {
+            p += half;
+        }
+        rest -= half;
+    }
+    p
+}
+
+// The vertex x is among those whose records stand in the words. Where as many are live as numbers were given, its number is its
+// place; else it stands where the hint says, or a search decides.
 fn is_live(words: &[u32], x: usize) -> bool
     requires { ⌜ Live (now words) ⌝ }
     requires { ⌜ x < 4294967296 ⌝ }
@@ -273,6 +288,12 @@ fn is_live(words: &[u32], x: usize) -> bool
     let n = layout::vertex_count(words);
     if wide_word(layout::next_vertex(words)) == n {
         return x < n;
+    }
+    let p = place_near(words, n, x as u32);
+    if p < n {
+        if wide_word(layout::vertex_number(words, p)) == x {
+            return true;
+        }
     }
     let found = layout::find_number(words, layout::VERTICES_AT, layout::VERTEX_SIZE, n, x as u32);
     match found {
@@ -396,4 +417,51 @@ fn put_hyperedge(
     let a = put_word(words, to, number_at(values, text, at + NUMBER_AT));
     let b = put_word(words, a, number_at(values, text, at + WEIGHT_AT));
     put_list(words, b, values, text, at, k)
+}
+
+// ---- reading
+
+fn copy_words(t: &mut [u32], words: &[u32])
+    requires { ⌜ length (now t) ≡ length (now words) ⌝ }
+    ensures { λ _. ⌜ now (t .exit) ≡ now (words .entry) ⌝ }
+{
+    let mut i = 0;
+    while i < words.len() {
+        t[i] = words[i];
+        i += 1;
+    }
+}
+
+// Copies the words where no line is faulty.
+fn store_read(t: &mut [u32], words: &[u32], line: usize)
+    requires { ⌜ length (now t) ≡ length (now words) ⌝ }
+    ensures { λ _. ⌜ now (t .exit) ≡ storedRead line (now (words .entry)) (now (t .entry)) ⌝ }
+{
+    if 0 < line {
+        return;
+    }
+    copy_words(t, words);
+}
+
+// The answer for the faulty line, or for none.
+fn answer_of(line: usize) -> Answer
+    ensures { λ r. ⌜ r ≡ answerOf line ⌝ }
+{
+    if line == 0 {
+        return Answer::Done(0);
+    }
+    Answer::BadText(line)
+}
+
+// Reads frame text into a table: 12 with the first line that no written text could have there, which changes no word.
+pub fn read_frames(t: &mut [u32], text: &[u8]) -> Answer
+    ensures { λ r. ⌜ result r (now (t .exit)) ≡ readResult (now (text .entry)) (now (t .entry)) ⌝ }
+{
+    if t.len() != layout::SIZE {
+        return Answer::NotWellFormed;
+    }
+    let mut words = [0u32; layout::SIZE];
+    let line = text::read_text(&mut words, text);
+    store_read(t, &words, line);
+    answer_of(line)
 }

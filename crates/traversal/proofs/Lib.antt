@@ -5,4 +5,3 @@ pub mod Reaching
 pub mod Listing
 pub mod Walks
 pub mod Steps
-pub mod Sheet

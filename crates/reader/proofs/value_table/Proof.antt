@@ -1,6 +1,6 @@
 -- `reader::value_table` meets its contract. Assumes nothing.
 use Prim.Native.Nat.{_-_, _≤_}
-use Rattle.reader.proofs.Digits.{Filled, filled-none, digit-low, filled-more, filled-end}
+use Rattle.reader.proofs.Digits.{Filled, filled-none, filled-more, filled-end}
 use borrow.Author.Needs.{needs}
 use Rattle.reader.proofs.value_table.Statement.{statement}
 use Rattle.reader.proofs.value_table.Tie as tie
@@ -17,17 +17,17 @@ loop-holds c = (search needs, filled-none)
 digit-requires : tie.Need-digit-requires Inv-loop μ-loop
 digit-requires c κs = search needs
 
-wide-requires : tie.Need-wide-requires Inv-loop μ-loop
-wide-requires c κs = search needs
-
 cast-values : tie.Need-cast-values Inv-loop μ-loop
 cast-values c = search needs
+
+cast-values-2 : tie.Need-cast-values-2 Inv-loop μ-loop
+cast-values-2 c = search needs
 
 mul-values : tie.Need-mul-values Inv-loop μ-loop
 mul-values c = search needs
 
 array-write-values : tie.Need-array-write-values Inv-loop μ-loop
-array-write-values c = search digit-low
+array-write-values c = search needs
 
 add-k : tie.Need-add-k Inv-loop μ-loop
 add-k c = search needs
@@ -49,8 +49,8 @@ value-table-spec =
     μ-loop
     loop-holds
     digit-requires
-    wide-requires
     cast-values
+    cast-values-2
     mul-values
     array-write-values
     add-k

@@ -1,0 +1,4 @@
+pub mod Agreement
+pub mod Interface
+pub mod Refusals
+pub mod Calls

@@ -1,0 +1,147 @@
+-- Each refusal is given then and only then, by the first that applies, and changes no lent word: for every entry point. Assumes nothing.
+use mathlib.Core.Path.{_≡_, refl, sym, ap, _∙_}
+use mathlib.Core.Bool.{Bool, true, false, not, cond}
+use mathlib.Core.List.{List, [], _∷_, _++_, map}
+use mathlib.Core.Option.{Option, some, none}
+use Prim.Native.Nat.{ℕ, suc}
+use native.Mathlib.Omega.{arith}
+use lib.Dec.{eqb, leb, ltb}
+use lib.ListN.{length}
+use borrow.Author.Tests.{le-leb, lt-leb, lt-ltb, le-ltb, ne-eqb}
+use Rattle.lists.specs.Tests.{_and_}
+use Rattle.lists.specs.Lists.{any, over, sameList}
+use Rattle.lists.proofs.Cases.{on, on-same, on-below}
+use Rattle.layout.specs.declared.Answer.{Answer}
+use Rattle.layout.specs.declared.Answer.the-variants.{Done}
+use Rattle.layout.specs.Content.{Hyperedge, Table, isLive}
+use Rattle.layout.specs.Layout.{limit, read}
+use Rattle.layout.specs.WellFormed.{wellFormed}
+use Rattle.layout.specs.Answers.{number, Result, result, onFormed, onLive, listed}
+use Rattle.edits.specs.Results.{onSome, onShort, onRoom, onNumber, onNew, onChanged, identical, membersOf, lastNumber}
+use Rattle.lookups.specs.Results.{onSeveral}
+use Rattle.promises.specs.Refusals.{Ground, first, Judged, unformed, noMembers, missing, sameMembers, tooMany, full, spent, tooFew, noRoom, unless}
+
+-- ---- what a judged call keeps to
+
+module _ {gs : List Ground} {lent : List ℕ} {r : Result} (j : Judged gs lent r) where
+  -- a refusal is one of the grounds', the first that applies
+  pub only-then : (n : ℕ) → r .number ≡ suc n → (g : Ground) × (first gs ≡ some g) × (r ≡ result (g .answer) lent)
+  only-then n e = by (first gs) refl where
+    by : (o : Option Ground) → first gs ≡ o → (g : Ground) × (first gs ≡ some g) × (r ≡ result (g .answer) lent)
+    by none h = absurd (let z : suc n ≡ 0 = sym e ∙ j .done h in omega arith)
+    by (some g) h = (g, h, j .refused g h)
+
+  -- a refusal changes neither table nor answer slice
+  pub refusal-keeps : (n : ℕ) → r .number ≡ suc n → r .lent ≡ lent
+  refusal-keeps n e = ap (λ (x : Result). x .lent) (only-then n e .2)
+
+-- ---- the ways that a comparison goes
+
+none-or-some : (n : ℕ) → eqb n 0 ≡ not (ltb 0 n)
+none-or-some n = on-same n 0 (λ h. rw h) (λ h. rw (ne-eqb n 0 h, lt-ltb 0 n (omega (arith, h))))
+
+over-or-not : (most n : ℕ) → ltb most n ≡ not (leb n most)
+over-or-not most n = on-below most n (λ h. rw (lt-ltb most n h, lt-leb n most h)) (λ h. rw (le-ltb most n h, le-leb n most h))
+
+full-or-not : (live most : ℕ) → leb most live ≡ not (ltb live most)
+full-or-not live most = on-below live most (λ h. rw (lt-ltb live most h, lt-leb most live h)) (λ h. rw (le-ltb live most h, le-leb most live h))
+
+-- ---- one ground more
+
+pub none-refused : {lent : List ℕ} {r : Result} → r .number ≡ 0 → Judged [] lent r
+unfolding first
+none-refused e = record { refused = λ g h. absurd (let z : _≡_ {A = ℕ} 0 1 = cc in omega arith); done = λ _. e }
+
+module _ (gs : List Ground) (lent : List ℕ) (r : Result) (j : Judged gs lent r) (g : Ground) where
+  first-is : (b : Bool) → g .applies ≡ b → first (g ∷ gs) ≡ cond b (some g) (first gs)
+  unfolding first
+  first-is b h = ap (λ (c : Bool). cond c (some g) (first gs)) h
+
+  pub refused-by : g .applies ≡ true → Judged (g ∷ gs) lent (result (g .answer) lent)
+  refused-by h = record {
+    refused = λ k e. (let s : some g ≡ some k = sym (first-is true h) ∙ e in let q : g ≡ k = cc in ap (λ (x : Ground). result (x .answer) lent) q);
+    done = λ e. absurd (let s : some g ≡ none = sym (first-is true h) ∙ e in let z : _≡_ {A = ℕ} 0 1 = cc in omega arith);
+  }
+
+  pub passed-by : g .applies ≡ false → Judged (g ∷ gs) lent r
+  passed-by h = record {
+    refused = λ k e. j .refused k (sym (first-is false h) ∙ e);
+    done = λ e. j .done (sym (first-is false h) ∙ e);
+  }
+
+  -- by a test that the ground applies, or that it does not
+  pub on-ground : (b : Bool) → g .applies ≡ b → Judged (g ∷ gs) lent (cond b (result (g .answer) lent) r)
+  on-ground true h = refused-by h
+  on-ground false h = passed-by h
+
+  pub off-ground : (b : Bool) → g .applies ≡ not b → Judged (g ∷ gs) lent (cond b r (result (g .answer) lent))
+  off-ground true h = passed-by h
+  off-ground false h = refused-by h
+
+-- ---- the combinators
+
+module _ {gs : List Ground} {lent : List ℕ} {r : Result} (j : Judged gs lent r) where
+  pub live-judged : (live : List ℕ) (refusal : ℕ → Answer) (xs : List ℕ) → Judged (map (missing live refusal) xs ++ gs) lent (onLive live refusal xs lent r)
+  unfolding onLive
+  live-judged live refusal [] = j
+  live-judged live refusal (x ∷ xs) =
+      off-ground (map (missing live refusal) xs ++ gs) lent (onLive live refusal xs lent r) (live-judged live refusal xs) (missing live refusal x) (isLive live x) refl
+
+  pub some-judged : (ms : List ℕ) (d : ℕ) → Judged (noMembers ms d ∷ gs) lent (onSome ms d lent r)
+  unfolding onSome
+  some-judged ms d = off-ground gs lent r j (noMembers ms d) (ltb 0 (length ms)) (none-or-some (length ms))
+
+  pub short-judged : (ms : List ℕ) → Judged (tooMany ms ∷ gs) lent (onShort ms lent r)
+  unfolding onShort
+  short-judged ms = off-ground gs lent r j (tooMany ms) (leb (length ms) limit) (over-or-not limit (length ms))
+
+  pub room-judged : (live most : ℕ) → Judged (full live most ∷ gs) lent (onRoom live most lent r)
+  unfolding onRoom
+  room-judged live most = off-ground gs lent r j (full live most) (ltb live most) (full-or-not live most)
+
+  pub number-judged : (next : ℕ) → Judged (spent next ∷ gs) lent (onNumber next lent r)
+  unfolding onNumber
+  number-judged next = on-ground gs lent r j (spent next) (eqb next lastNumber) refl
+
+  pub changed-judged : (x : ℕ) (ms : List ℕ) (t : Table) → Judged (sameMembers x ms t ∷ gs) lent (onChanged x ms t lent r)
+  unfolding onChanged
+  changed-judged x ms t = on-ground gs lent r j (sameMembers x ms t) (sameList ms (membersOf x (t .hyperedges))) refl
+
+  pub several-judged : (xs : List ℕ) → Judged (tooFew xs ∷ gs) lent (onSeveral xs lent r)
+  unfolding onSeveral
+  several-judged xs = on-ground gs lent r j (tooFew xs) (ltb (length xs) 2) refl
+
+pub formed-judged : (ws : List ℕ) (f : Table → Result) {lent : List ℕ} {gs : List Ground} → Judged gs lent (f (read limit ws)) → Judged (unformed ws ∷ gs) lent (onFormed ws lent f)
+unfolding onFormed
+formed-judged ws f {lent} {gs} j = off-ground gs lent (f (read limit ws)) j (unformed ws) (wellFormed limit ws) refl
+
+pub listed-judged : (xs lent : List ℕ) → Judged (noRoom xs lent ∷ []) lent (listed xs lent)
+unfolding listed
+listed-judged xs lent =
+    let done = result (Done (length xs)) (over xs lent) in
+    off-ground [] lent done (none-refused refl) (noRoom xs lent) (leb (length xs) (length lent)) (over-or-not (length lent) (length xs))
+
+-- an identical one answers, and nothing behind it applies
+none-applies : (gs : List Ground) → first (map (unless true) gs) ≡ none
+unfolding first _and_
+none-applies [] = refl
+none-applies (g ∷ gs) = none-applies gs
+
+all-apply : (gs : List Ground) → map (unless false) gs ≡ gs
+unfolding _and_
+all-apply [] = refl
+all-apply (g ∷ gs) = ap (λ (hs : List Ground). g ∷ hs) (all-apply gs)
+
+pub answered : (gs : List Ground) (lent : List ℕ) (r : Result) → r .number ≡ 0 → Judged (map (unless true) gs) lent r
+answered gs lent r e = record {
+  refused = λ g h. absurd (let z : none ≡ some g = sym (none-applies gs) ∙ h in let y : _≡_ {A = ℕ} 0 1 = cc in omega arith);
+  done = λ _. e;
+}
+
+pub new-judged : {gs : List Ground} {lent : List ℕ} {r : Result} → Judged gs lent r → (ms : List ℕ) (w : ℕ) (es : List Hyperedge) →
+    Judged (map (unless (any (identical ms w) es)) gs) lent (onNew ms w es lent r)
+unfolding any onNew
+new-judged {gs} j ms w [] = rw (all-apply gs) j
+new-judged {gs} {lent} j ms w (e ∷ es) = on (identical ms w e)
+    (λ h. rw h (answered gs lent (result (Done (e .number)) lent) refl))
+    (λ h. rw h (new-judged j ms w es))

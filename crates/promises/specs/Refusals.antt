@@ -1,0 +1,136 @@
+-- The grounds of refusal, and what it is for a call to be refused by them. Assumes nothing.
+use mathlib.Core.Path.{_≡_}
+use mathlib.Core.Bool.{Bool, cond, not}
+use mathlib.Core.List.{List, [], _∷_, _++_, map}
+use mathlib.Core.Option.{Option, some, none}
+use Prim.Native.Nat.{ℕ}
+use lib.Dec.{eqb, leb, ltb}
+use lib.ListN.{length}
+use Rattle.lists.specs.Tests.{_and_}
+use Rattle.lists.specs.Lists.{any, sameList}
+use Rattle.layout.specs.declared.Answer.{Answer}
+use Rattle.layout.specs.declared.Answer.the-variants.{NotWellFormed, NoMembers, SameMembers, TooManyMembers, Full, NumbersSpent, ClosedWalk, TooFewHyperedges, NoRoom}
+use Rattle.layout.specs.Content.{Table, liveVertices, liveHyperedges, isLive}
+use Rattle.layout.specs.Layout.{vertexLimit, hyperedgeLimit, limit, size, read}
+use Rattle.layout.specs.WellFormed.{wellFormed}
+use Rattle.layout.specs.Answers.{Result, result, vertexMissing, hyperedgeMissing}
+use Rattle.edits.specs.Results.{lastNumber, identical, membersOf}
+use Rattle.structural.specs.Sort.{acyclic}
+
+-- a ground of refusal: the answer that it gives, and whether it applies
+pub record Ground : Type 0 where
+  pub answer : Answer
+  pub applies : Bool
+
+-- the first that applies
+unfoldable pub first : List Ground → Option Ground
+first [] = none
+first (g ∷ gs) = cond (g .applies) (some g) (first gs)
+
+-- each refusal is given then and only then, by the first that applies, and changes no lent word
+pub record Judged (gs : List Ground) (lent : List ℕ) (r : Result) : Type 0 where
+  pub refused : (g : Ground) → first gs ≡ some g → r ≡ result (g .answer) lent
+  pub done : first gs ≡ none → r .number ≡ 0
+
+-- ---- the table of answer numbers
+
+-- 1: table not well formed
+abbrev pub unformed : List ℕ → Ground
+unformed ws = record { answer = NotWellFormed; applies = not (wellFormed limit ws) }
+
+-- 1, where only a wrong length counts
+abbrev pub unsized : List ℕ → Ground
+unsized ws = record { answer = NotWellFormed; applies = not (eqb (length ws) (size limit)) }
+
+-- 2: member list empty
+abbrev pub noMembers : List ℕ → ℕ → Ground
+noMembers ms d = record { answer = NoMembers d; applies = eqb (length ms) 0 }
+
+-- what is not live, by the refusal that names it
+abbrev pub missing : List ℕ → (ℕ → Answer) → ℕ → Ground
+missing live refusal x = record { answer = refusal x; applies = not (isLive live x) }
+
+-- 3: vertex not live, for each of the list in turn
+abbrev pub deadVertices : Table → List ℕ → List Ground
+deadVertices t vs = map (missing (liveVertices t) vertexMissing) vs
+
+-- 4: hyperedge not live, for each of the list in turn
+abbrev pub deadHyperedges : Table → List ℕ → List Ground
+deadHyperedges t es = map (missing (liveHyperedges t) hyperedgeMissing) es
+
+-- 5: new list equals the old
+abbrev pub sameMembers : ℕ → List ℕ → Table → Ground
+sameMembers x ms t = record { answer = SameMembers (record { 0 = x }); applies = sameList ms (membersOf x (t .hyperedges)) }
+
+-- 6: member list over the limit
+abbrev pub tooMany : List ℕ → Ground
+tooMany ms = record { answer = TooManyMembers (length ms); applies = ltb limit (length ms) }
+
+-- 7: as many live as the limit
+abbrev pub full : ℕ → ℕ → Ground
+full live most = record { answer = Full; applies = leb most live }
+
+-- 8: the next number is the one that is never given
+abbrev pub spent : ℕ → Ground
+spent next = record { answer = NumbersSpent; applies = eqb next lastNumber }
+
+-- 9: steps form a closed walk
+abbrev pub closedWalk : Table → Ground
+closedWalk t = record { answer = ClosedWalk; applies = not (acyclic t) }
+
+-- 10: fewer than two hyperedges to intersect
+abbrev pub tooFew : List ℕ → Ground
+tooFew es = record { answer = TooFewHyperedges; applies = ltb (length es) 2 }
+
+-- 11: answer longer than the lent slice
+abbrev pub noRoom : List ℕ → List ℕ → Ground
+noRoom xs lent = record { answer = NoRoom (length xs); applies = ltb (length lent) (length xs) }
+
+-- ---- the order for each call; ws are the table's words
+
+abbrev pub content : List ℕ → Table
+content ws = read limit ws
+
+-- add vertex 1, 7, 8
+abbrev pub addVertexGrounds : List ℕ → List Ground
+addVertexGrounds ws =
+    let t = content ws in unformed ws ∷ full (length (t .vertices)) vertexLimit ∷ spent (t .nextVertex) ∷ []
+
+-- a ground that applies only where the test fails
+abbrev pub unless : Bool → Ground → Ground
+unless b g = record { answer = g .answer; applies = not b and g .applies }
+
+-- add hyperedge 1, 2, 6, 3; then 7, 8, unless there is an identical one
+abbrev pub addHyperedgeGrounds : List ℕ → ℕ → List ℕ → List Ground
+addHyperedgeGrounds ms w ws =
+    let t = content ws in
+    unformed ws ∷ noMembers ms w ∷ tooMany ms
+    ∷ (deadVertices t ms
+    ++ map (unless (any (identical ms w) (t .hyperedges))) (full (length (t .hyperedges)) hyperedgeLimit ∷ spent (t .nextHyperedge) ∷ []))
+
+-- update 1, 2, 6, 3, 4, 5
+abbrev pub updateGrounds : ℕ → List ℕ → List ℕ → List Ground
+updateGrounds x ms ws =
+    let t = content ws in
+    unformed ws ∷ noMembers ms x ∷ tooMany ms ∷ (deadVertices t ms ++ (deadHyperedges t (x ∷ []) ++ (sameMembers x ms t ∷ [])))
+
+-- remove vertex 1, 3; queries 1, then the first argument before the second
+abbrev pub vertexGrounds : List ℕ → List ℕ → List Ground
+vertexGrounds vs ws = unformed ws ∷ deadVertices (content ws) vs
+
+-- remove hyperedge 1, 4
+abbrev pub hyperedgeGrounds : ℕ → List ℕ → List Ground
+hyperedgeGrounds x ws = unformed ws ∷ deadHyperedges (content ws) (x ∷ [])
+
+-- queries 1, then their own refusal, then 11
+abbrev pub listingGrounds : List ℕ → List ℕ → List ℕ → List ℕ → List Ground
+listingGrounds vs xs lent ws = unformed ws ∷ (deadVertices (content ws) vs ++ (noRoom xs lent ∷ []))
+
+-- intersections 1, 10, 4, 11
+abbrev pub intersectionsGrounds : List ℕ → List ℕ → List ℕ → List ℕ → List Ground
+intersectionsGrounds es xs lent ws =
+    unformed ws ∷ tooFew es ∷ (deadHyperedges (content ws) es ++ (noRoom xs lent ∷ []))
+
+-- the sort 1, 9, 11
+abbrev pub sortGrounds : List ℕ → List ℕ → List ℕ → List Ground
+sortGrounds xs lent ws = unformed ws ∷ closedWalk (content ws) ∷ noRoom xs lent ∷ []

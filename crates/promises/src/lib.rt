@@ -1,0 +1,1 @@
+// What holds of every entry point's promise: theorems alone, no code.

@@ -1,0 +1,212 @@
+-- The hyperedge lines: what a pass over them has judged and stored. Assumes nothing.
+use mathlib.Core.Path.{_≡_, refl, sym, ap, _∙_}
+use mathlib.Core.Bool.{Bool, true, false, not, cond}
+use mathlib.Core.List.{List}
+use Prim.Native.Nat.{ℕ, _+_, _*_, _-_, _≤_, _<_}
+use native.Mathlib.Numerals.{add-one}
+use native.Mathlib.Omega.{arith}
+use lib.ListN.{length, getD}
+use borrow.Author.Tests.{not-true, not-false}
+use Rattle.lists.specs.Tests.{_and_, every}
+use Rattle.lists.specs.Lists.{tab, flat}
+use Rattle.lists.proofs.Cases.{on, and-both}
+use Rattle.lists.proofs.Tab.{tab-ext, tab-suc}
+use Rattle.lists.proofs.Flat.{flat-snoc}
+use Rattle.layout.specs.Content.{liveVertices}
+use Rattle.layout.specs.Layout.{limit, hyperedgeLimit, recordSize, hyperedgesAt, vertexWord, vertexCount, hyperedgeCount, nextHyperedgeIn, hyperedgeWords}
+use Rattle.layout.specs.WellFormed.{vertexColumn}
+use Rattle.frames.specs.Put.{Put}
+use Rattle.frames.specs.Reading.{nextHyperedgeOf, verticesDue, hyperedgesDue, vertexPlace, numberIn, countIn, hyperedgePlace, hyperedgeFrom, hyperedgeIn, hyperedgeNumberIn, hyperedgeGood, contentOf}
+use Rattle.frames.proofs.Laws.{put-length, put-append, put-as}
+use Rattle.frames.proofs.Lines.{put-none}
+use Rattle.reader.specs.Lines.{Sealed, lowest}
+use Rattle.reader.specs.Passes.{Live}
+use Rattle.reader.specs.Hyperedges.{hyperedgeFits, VerticesStored, HyperedgeRead, HyperedgesRead}
+use Rattle.reader.proofs.Numbers.{number-good, lowest-next}
+use Rattle.reader.proofs.HeadLine.{hyperedges-few, hyperedges-given}
+use Rattle.reader.proofs.HyperedgeLine.{fits-framed, fits-counted}
+use Rattle.reader.proofs.Pasted.{put-before}
+
+-- ---- one line
+
+module _ (text : List ℕ) (p low high : ℕ) (ws : List ℕ) (r : Bool) (e : r ≡ hyperedgeFits text p low high (vertexColumn ws)) where
+  pub line-unfit : (to : ℕ) → not r ≡ true → HyperedgeRead text p low high to ws ws 0
+  line-unfit to n = record {
+    judged = sym (ap (λ (b : Bool). cond b (countIn text p) 0) (sym e ∙ not-true r n));
+    small = omega arith;
+    kept = λ z. refl;
+    put = λ z. absurd (omega arith);
+  }
+
+  module _ (n : not r ≡ false) where
+    fit : hyperedgeFits text p low high (vertexColumn ws) ≡ true
+    fit = sym e ∙ not-false r n
+
+    pub line-framed : p ≤ length text → (k : ℕ) → k ≡ countIn text p → Sealed text p (11 + k * 4)
+    line-framed h k q = rw q (fits-framed text p low high (vertexColumn ws) h fit)
+
+    pub line-few : (k : ℕ) → k ≡ countIn text p → k ≤ limit
+    line-few k q = rw q (fits-counted text p low high (vertexColumn ws) fit .1)
+
+    pub line-count-room : p ≤ length text → p + 18 + 2 ≤ length text
+    line-count-room h = omega (arith, fits-framed text p low high (vertexColumn ws) h fit .room)
+
+    pub line-stored : {later : List ℕ} {to k q : ℕ} → k ≡ countIn text p → Put to (recordSize limit) (hyperedgeWords limit (hyperedgeFrom text p)) ws later q
+        → HyperedgeRead text p low high to ws later k
+    line-stored {k = k} f g = record {
+      judged = f ∙ sym (ap (λ (b : Bool). cond b (countIn text p) 0) fit);
+      small = rw f (fits-counted text p low high (vertexColumn ws) fit .1);
+      kept = λ z. absurd (omega (arith, fits-counted text p low high (vertexColumn ws) fit .0));
+      put = λ z. rw (← g .reached) g;
+    }
+
+-- what is known of a line that was read
+module _ {text : List ℕ} {p low high to : ℕ} {ws later : List ℕ} {k : ℕ} (h : HyperedgeRead text p low high to ws later k) where
+  abbrev fits : Bool
+  fits = hyperedgeFits text p low high (vertexColumn ws)
+
+  judged-as : (b : Bool) → fits ≡ b → k ≡ cond b (countIn text p) 0
+  judged-as b f = h .judged ∙ ap (λ (t : Bool). cond t (countIn text p) 0) f
+
+  read-none : k ≡ 0 → fits ≡ false
+  read-none z = on fits
+      (λ f. absurd (omega (arith, judged-as true f, fits-counted text p low high (vertexColumn ws) f .0)))
+      (λ f. f)
+
+  module _ (z : k ≡ 0 → ⊥) where
+    read-fits : fits ≡ true
+    read-fits = on fits (λ f. f) (λ f. absurd (z (judged-as false f)))
+
+    read-count : k ≡ countIn text p
+    read-count = judged-as true read-fits
+
+    read-framed : p ≤ length text → Sealed text p (11 + k * 4)
+    read-framed l = rw read-count (fits-framed text p low high (vertexColumn ws) l read-fits)
+
+    pub read-room : p ≤ length text → p + 2 + 8 ≤ length text
+    read-room l = omega (arith, read-framed l .room)
+
+-- ---- the vertices stay where a record is put behind them
+
+module _ {ws later : List ℕ} {to n q : ℕ} {xs : List ℕ} (f : Put to n xs ws later q) (behind : hyperedgesAt ≤ to) (l : Live ws) where
+  same-count : vertexCount later ≡ vertexCount ws
+  same-count = put-before f 2 (omega arith)
+
+  same-number : (i : ℕ) → i < vertexCount ws → getD later (vertexWord i) 0 ≡ getD ws (vertexWord i) 0
+  same-number i h = put-before f (vertexWord i) (omega (arith, l .some))
+
+  column-kept : vertexColumn later ≡ vertexColumn ws
+  column-kept =
+      ap (tab (λ i. getD later (vertexWord i) 0)) same-count
+      ∙ tab-ext (λ i. getD later (vertexWord i) 0) (λ i. getD ws (vertexWord i) 0) (vertexCount ws) same-number
+
+  live-kept : Live later
+  live-kept = record {
+    sized = put-length f ∙ l .sized;
+    some = rw same-count (l .some);
+    ascend = rw column-kept (l .ascend);
+    below = λ i h.
+        let k : i < vertexCount ws = rw same-count at h in
+        rw (same-number i k, put-before f 0 (omega arith)) (l .below i k);
+  }
+
+-- ---- i hyperedges are judged and stored: the least number of the next one, the place of its line and the word that it goes to
+
+pub record HyperedgesSo (text before after : List ℕ) (low at to i : ℕ) : Type 0 where
+  pub some : i ≤ hyperedgesDue text
+  pub good : every (hyperedgeGood text) i ≡ true
+  pub least : low ≡ lowest (hyperedgeNumberIn text) i
+  pub place : at ≡ hyperedgePlace text i
+  pub within : at ≤ length text
+  pub word : to ≡ hyperedgesAt + i * recordSize limit
+  pub put : Put hyperedgesAt (i * recordSize limit) (flat (hyperedgeWords limit) (tab (hyperedgeIn text) i)) before after to
+  pub live : Live after
+  pub same : vertexColumn after ≡ liveVertices (contentOf text)
+
+pub hyperedges-none : (text ws : List ℕ) (p : ℕ) → VerticesStored text ws → p ≡ vertexPlace (verticesDue text) → HyperedgesSo text ws ws 0 p 516 0
+unfolding every lowest hyperedgePlace tab flat
+hyperedges-none text ws p v e = record {
+  some = omega arith;
+  good = refl;
+  least = refl;
+  place = e;
+  within = omega (arith, v .within);
+  word = refl;
+  put = put-none 516 ws (omega (arith, v .live .sized));
+  live = v .live;
+  same = v .same;
+}
+
+pub hyperedges-end : {text before after : List ℕ} {low at to i : ℕ} → HyperedgesSo text before after low at to i → HyperedgesRead text (hyperedgesDue text) before after i at
+hyperedges-end v = record {
+  some = v .some;
+  good = v .good;
+  reached = v .place;
+  within = v .within;
+  put = rw (← v .word) (v .put);
+}
+
+place-next : (text : List ℕ) (i p k : ℕ) → p ≡ hyperedgePlace text i → k ≡ countIn text p → p + (23 + k * 8) ≡ hyperedgePlace text (i + 1)
+unfolding hyperedgePlace
+place-next text i p k e f = rw (add-one i, ← e, ← f)
+
+module _ (text : List ℕ) (m next : ℕ) (em : m ≡ hyperedgesDue text) (ex : next ≡ nextHyperedgeOf text) (given : m ≤ next) where
+  hyperedge-judged : (i : ℕ)
+      → hyperedgeFits text (hyperedgePlace text i) (lowest (hyperedgeNumberIn text) i) (next - (m - i)) (liveVertices (contentOf text)) ≡ hyperedgeGood text i
+  unfolding hyperedgeFits hyperedgeGood
+  hyperedge-judged i = rw (← em, ← ex, number-good (hyperedgeNumberIn text) m next i given)
+
+  module _ {before after : List ℕ} {low at to i : ℕ} (v : HyperedgesSo text before after low at to i)
+      {later : List ℕ} {k : ℕ} (h : HyperedgeRead text at low (next - (m - i)) to after later k) where
+    found : fits h ≡ hyperedgeGood text i
+    found = rw (v .place, v .least, v .same) (hyperedge-judged i)
+
+    pub hyperedges-stop : k ≡ 0 → HyperedgesRead text (hyperedgesDue text) before later i at
+    hyperedges-stop z = rw (h .kept z) (hyperedges-end v)
+
+    pub hyperedges-bad : k ≡ 0 → hyperedgeGood text i ≡ false
+    hyperedges-bad z = sym found ∙ read-none h z
+
+    pub hyperedges-more : {x : ℕ} → (k ≡ 0 → ⊥) → i < m → x ≡ numberIn text at → HyperedgesSo text before later (x + 1) (at + (23 + k * 8)) (to + 35) (i + 1)
+    unfolding every
+    hyperedges-more z l exn =
+        let f = h .put (omega arith) in
+        record {
+          some = omega arith;
+          good = rw (add-one i) (and-both _ _ (v .good) (sym found ∙ read-fits h z));
+          least = lowest-next (hyperedgeNumberIn text) i _ (exn ∙ ap (numberIn text) (v .place));
+          place = place-next text i at k (v .place) (read-count h z);
+          within = omega (arith, read-framed h z (v .within) .room);
+          word = omega (arith, v .word);
+          put = put-as (omega arith)
+              (sym (flat-snoc (hyperedgeWords limit) (tab (hyperedgeIn text) i) (hyperedgeIn text i))
+              ∙ ap (flat (hyperedgeWords limit)) (sym (tab-suc (hyperedgeIn text) i) ∙ ap (tab (hyperedgeIn text)) (sym (add-one i))))
+              (put-append (v .put) (rw (v .place) at f));
+          live = live-kept f (omega (arith, v .word)) (v .live);
+          same = column-kept f (omega (arith, v .word)) (v .live) ∙ v .same;
+        }
+
+pub hyperedges-over : (text : List ℕ) (m i : ℕ) → m ≡ hyperedgesDue text → m ≤ i → i < hyperedgesDue text → hyperedgeGood text i ≡ false
+hyperedges-over text m i e h l = absurd (omega arith)
+
+pub hyperedges-word : {text before after : List ℕ} {low at to i m : ℕ} → HyperedgesSo text before after low at to i → i < m → m ≤ 192 → to + 35 ≤ length after
+hyperedges-word v l h = omega (arith, v .word, v .live .sized)
+
+-- ---- the head's numbers, as they stand in the words
+
+module _ {text ws : List ℕ} (v : VerticesStored text ws) where
+  pub stored-place : (n : ℕ) → n ≡ vertexCount ws → 33 + n * 21 ≡ vertexPlace (verticesDue text)
+  stored-place n e = ap vertexPlace (e ∙ v .head .vertices)
+
+  module _ (m : ℕ) (e : m ≡ hyperedgeCount ws) where
+    pub stored-due : m ≡ hyperedgesDue text
+    stored-due = e ∙ v .head .hyperedges
+
+    pub stored-few : m ≤ hyperedgeLimit
+    stored-few = omega (arith, stored-due, hyperedges-few text (v .head .good))
+
+    pub stored-given : (u w : ℕ) → u ≡ nextHyperedgeIn ws → w ≡ u → m ≤ w
+    stored-given u w f g = omega (arith, stored-due, f, g, v .head .next-hyperedge, hyperedges-given text (v .head .good))
+
+  pub stored-next : (u w : ℕ) → u ≡ nextHyperedgeIn ws → w ≡ u → w ≡ nextHyperedgeOf text
+  stored-next u w f g = g ∙ f ∙ v .head .next-hyperedge

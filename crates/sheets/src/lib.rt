@@ -1,0 +1,1 @@
+// The sheets to check by: cases and one theorem, no code.
