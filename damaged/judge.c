@@ -406,15 +406,6 @@ static void put_ordered(const content *c, verdict *v) {
         put(v, c->vertex[order[k]]);
 }
 
-static void judge_get_bfs(const content *c, const arguments *a, verdict *v) {
-    int x = live_vertex(c, a->x, v);
-    if (x < 0)
-        return;
-    find_steps(c);
-    go_breadth_first(c, x);
-    put_ordered(c, v);
-}
-
 static void go_depth_first(const content *c, int x) {
     seen[x] = true;
     order[ordered++] = x;
@@ -423,14 +414,18 @@ static void go_depth_first(const content *c, int x) {
             go_depth_first(c, y);
 }
 
-static void judge_get_dfs(const content *c, const arguments *a, verdict *v) {
+static void judge_search(const content *c, const arguments *a, verdict *v, void (*go)(const content *, int)) {
     int x = live_vertex(c, a->x, v);
     if (x < 0)
         return;
     find_steps(c);
-    go_depth_first(c, x);
+    go(c, x);
     put_ordered(c, v);
 }
+
+static void judge_get_bfs(const content *c, const arguments *a, verdict *v) { judge_search(c, a, v, go_breadth_first); }
+
+static void judge_get_dfs(const content *c, const arguments *a, verdict *v) { judge_search(c, a, v, go_depth_first); }
 
 static void judge_is_reachable(const content *c, const arguments *a, verdict *v) {
     int x = live_vertex(c, a->x, v);

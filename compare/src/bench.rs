@@ -1,6 +1,6 @@
 //! Times every function beside the Rust's, on the same tables. A time is no test: the table is printed and nothing is judged.
 use std::hint::black_box;
-use std::time::{Duration, Instant};
+use std::time::Duration;
 
 use hypergraph::HypergraphQuery;
 use vaultsorrel::{self as vs, Hyperedge, Vertex};
@@ -9,10 +9,50 @@ use crate::calls::{Both, Edit};
 use crate::draw::Draw;
 use crate::oracle::{self, Graph};
 
-/// What the rounds of one call may take together, and how many there are at least and at most.
-const SPENT: Duration = Duration::from_millis(150);
+/// What the rounds of one function may take together, how many there are at least and at most, and what a round takes at least.
+const SPENT: Duration = Duration::from_millis(300);
 const FEWEST: usize = 7;
 const MOST: usize = 301;
+const ROUND: Duration = Duration::from_micros(100);
+
+#[repr(C)]
+struct Timespec {
+    seconds: i64,
+    nanoseconds: i64,
+}
+
+const THREAD_TIME: i32 = 3;
+
+unsafe extern "C" {
+    fn clock_gettime(clock: i32, time: *mut Timespec) -> i32;
+}
+
+/// The processor time of this thread: what other programs take meanwhile does not count.
+fn now() -> Duration {
+    let mut time = Timespec {
+        seconds: 0,
+        nanoseconds: 0,
+    };
+    // The pointer is to a value of the C library's form on a 64-bit system.
+    unsafe { clock_gettime(THREAD_TIME, &mut time) };
+    Duration::new(time.seconds as u64, time.nanoseconds as u32)
+}
+
+/// The time of so many calls, without what reading the clock takes.
+fn timed<T>(calls: u32, clock: Duration, mut call: impl FnMut() -> T) -> Duration {
+    let began = now();
+    for _ in 0..calls {
+        black_box(call());
+    }
+    (now() - began).saturating_sub(clock)
+}
+
+/// What reading the clock takes.
+fn clock() -> Duration {
+    let mut times: Vec<_> = (0..1001).map(|_| timed(0, Duration::ZERO, || ())).collect();
+    times.sort_unstable();
+    times[500]
+}
 
 /// The sizes of a table, how far its vertex numbers may lie apart, and whether its lists ascend.
 #[derive(Clone, Copy)]
@@ -25,38 +65,33 @@ struct Kind {
     ascending: bool,
 }
 
+const FULL: Kind = Kind {
+    name: "full",
+    vertices: 256,
+    hyperedges: 192,
+    members: 32,
+    gap: 1,
+    ascending: false,
+};
+
 const KINDS: [Kind; 4] = [
-    Kind {
-        name: "full",
-        vertices: 256,
-        hyperedges: 192,
-        members: 32,
-        gap: 1,
-        ascending: false,
-    },
+    FULL,
     Kind {
         name: "acyclic",
-        vertices: 256,
-        hyperedges: 192,
-        members: 32,
-        gap: 1,
         ascending: true,
+        ..FULL
     },
     Kind {
         name: "gaps",
-        vertices: 256,
-        hyperedges: 192,
-        members: 32,
         gap: 1000,
-        ascending: false,
+        ..FULL
     },
     Kind {
         name: "small",
         vertices: 8,
         hyperedges: 6,
         members: 4,
-        gap: 1,
-        ascending: false,
+        ..FULL
     },
 ];
 
@@ -94,10 +129,10 @@ fn median(mut times: Vec<Duration>) -> f64 {
 
 /// Rounds of the two sides in turn, after one that warms up; each gives the time of one call.
 fn alternate(mut ours: impl FnMut() -> Duration, mut rust: impl FnMut() -> Duration) -> Medians {
-    let began = Instant::now();
+    let began = now();
     let (mut of_ours, mut of_rust) = (Vec::new(), Vec::new());
     (ours(), rust());
-    while of_ours.len() < FEWEST || (of_ours.len() < MOST && began.elapsed() < 2 * SPENT) {
+    while of_ours.len() < FEWEST || (of_ours.len() < MOST && now() - began < SPENT) {
         of_ours.push(ours());
         of_rust.push(rust());
     }
@@ -107,35 +142,29 @@ fn alternate(mut ours: impl FnMut() -> Duration, mut rust: impl FnMut() -> Durat
     }
 }
 
-/// The time of a call: the mean of as many as make a round of 50 microseconds.
-fn mean<T>(call: &mut impl FnMut() -> T) -> Duration {
-    let began = Instant::now();
-    let mut calls = 0;
-    while calls == 0 || began.elapsed() < Duration::from_micros(50) {
-        black_box(call());
-        calls += 1;
+/// A round of a query: the mean of as many calls as the first ones showed to be needed.
+fn round<T>(clock: Duration, mut call: impl FnMut() -> T) -> impl FnMut() -> Duration {
+    let mut calls = 1;
+    while timed(calls, clock, &mut call) < ROUND {
+        calls *= 2;
     }
-    began.elapsed() / calls
+    move || timed(calls, clock, &mut call) / calls
 }
 
-fn query<A, B>(mut ours: impl FnMut() -> A, mut rust: impl FnMut() -> B) -> Medians {
-    alternate(|| mean(&mut ours), || mean(&mut rust))
+fn query<A, B>(clock: Duration, ours: impl FnMut() -> A, rust: impl FnMut() -> B) -> Medians {
+    alternate(round(clock, ours), round(clock, rust))
 }
 
 /// An edit is made once on a fresh copy; making the copy and dropping it is not timed.
-fn edit<A, B>(from: &Both, ours: impl Fn(&mut [u32]) -> A, rust: impl Fn(&mut Graph) -> B) -> Medians {
+fn edit<A, B>(clock: Duration, from: &Both, ours: impl Fn(&mut [u32]) -> A, rust: impl Fn(&mut Graph) -> B) -> Medians {
     alternate(
         || {
             let mut table = from.table.clone();
-            let began = Instant::now();
-            black_box(ours(&mut table));
-            began.elapsed()
+            timed(1, clock, || ours(&mut table))
         },
         || {
             let mut graph = from.graph.clone();
-            let began = Instant::now();
-            black_box(rust(&mut graph));
-            began.elapsed()
+            timed(1, clock, || rust(&mut graph))
         },
     )
 }
@@ -150,15 +179,15 @@ fn of_kind(kind: Kind) -> Vec<(&'static str, Medians)> {
     let (x, y) = (numbers[numbers.len() / 2], numbers[numbers.len() - 1]);
     let (v, w) = (oracle::vertex(x), oracle::vertex(y));
     let list = Draw::new(2).members(&numbers[..numbers.len() - 1], kind.members, false);
-    let mut rows = Vec::new();
+    let (clock, mut rows) = (clock(), Vec::new());
     macro_rules! edits {
         ($($name:ident $from:ident ($($ours:expr),*) ($($rust:expr),*);)*) => {
-            $(rows.push((stringify!($name), edit(&$from, |t| vs::$name(t, $($ours),*), |g| g.$name($($rust),*))));)*
+            $(rows.push((stringify!($name), edit(clock, &$from, |t| vs::$name(t, $($ours),*), |g| g.$name($($rust),*))));)*
         };
     }
     macro_rules! queries {
         ($($name:ident ($($ours:expr),*) ($($rust:expr),*);)*) => {
-            $(rows.push((stringify!($name), query(|| vs::$name(t, $($ours),*), || g.$name($($rust),*))));)*
+            $(rows.push((stringify!($name), query(clock, || vs::$name(t, $($ours),*), || g.$name($($rust),*))));)*
         };
     }
     edits! {
@@ -207,13 +236,22 @@ fn of_kind(kind: Kind) -> Vec<(&'static str, Medians)> {
     rows
 }
 
-/// Two or three digits, and no more than are whole.
+/// Two or three digits, where there are as many.
 fn short(x: f64) -> String {
-    let digits = if x < 1.0 { 2 } else { usize::from(x < 100.0) };
+    let digits = [(0.1, 3), (1.0, 2), (100.0, 1)]
+        .iter()
+        .find(|(below, _)| x < *below)
+        .map_or(0, |(_, digits)| *digits);
     format!("{x:.digits$}")
 }
 
+/// The machine's load over the last minute, five and fifteen, where the system tells it.
+fn load() -> String {
+    std::fs::read_to_string("/proc/loadavg").map_or("unknown".into(), |s| s.split(' ').take(3).collect::<Vec<_>>().join(", "))
+}
+
 pub fn run() {
+    println!("load before: {}", load());
     let columns: Vec<_> = KINDS.into_iter().map(of_kind).collect();
     print!("| Function |");
     for kind in KINDS {
@@ -228,4 +266,5 @@ pub fn run() {
         }
         println!();
     }
+    println!("load after: {}", load());
 }
