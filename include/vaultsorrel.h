@@ -17,6 +17,7 @@
  *    9  the steps form a closed walk
  *   10  fewer than two hyperedges to intersect
  *   11  the answer is longer than the slice             detail: the words (text: bytes) needed
+ *   12  the frame text is bad                           detail: the first line that no written text could have there
  *
  * Where a call is done, the detail is the number given (adds), 1 or 0 (yes or no), the count (degrees), the words or bytes
  * written (listings), else 0. A listing is written from the front of the slice, and the rest of the slice is kept.
@@ -180,6 +181,10 @@ vs_reply vs_random_walk(const uint32_t *table, size_t table_words, vs_vertex sta
 
 /* The table as text. Refusals 1, 11. */
 vs_reply vs_write_frames(const uint32_t *table, size_t table_words, uint8_t *text, size_t text_bytes);
+
+/* The table that the text was written from, next numbers included; what the table held before does not matter. Refusals 1 (only
+ * for a wrong number of words), 12. */
+vs_reply vs_read_frames(uint32_t *table, size_t table_words, const uint8_t *text, size_t text_bytes);
 
 #ifdef __cplusplus
 }

@@ -5,8 +5,10 @@ mod calls;
 mod differences;
 mod draw;
 mod oracle;
+mod record;
 
 use std::collections::BTreeMap;
+use std::path::Path;
 
 use calls::{Both, Edit, Query, name};
 use draw::Draw;
@@ -273,10 +275,13 @@ fn all_lists(n: u32, longest: usize) -> Vec<Vec<u32>> {
 }
 
 fn main() {
-    match std::env::args().nth(1).as_deref() {
+    let words: Vec<String> = std::env::args().skip(1).collect();
+    let seed_at = |place: usize| words.get(place).and_then(|s| s.parse().ok()).unwrap_or(1);
+    match words.first().map(String::as_str) {
         Some("bench") => bench::run(),
         Some("differences") => differences::run(),
-        asked => compare(asked.and_then(|s| s.parse().ok()).unwrap_or(1)),
+        Some("record") => record::write(Path::new(&words[1]), seed_at(2)),
+        _ => compare(seed_at(0)),
     }
 }
 

@@ -229,6 +229,7 @@ mod c {
             out_words: usize,
         ) -> Reply;
         pub fn vs_write_frames(table: *const u32, table_words: usize, text: *mut u8, text_bytes: usize) -> Reply;
+        pub fn vs_read_frames(table: *mut u32, table_words: usize, text: *const u8, text_bytes: usize) -> Reply;
     }
 }
 
@@ -482,4 +483,10 @@ pub fn random_walk(table: &[u32], start: Vertex, steps: usize, seed: u64, out: &
 pub fn write_frames(table: &[u32], text: &mut [u8]) -> Answer {
     // The pointers and counts are those of slices that live and do not overlap for the time of the call.
     unsafe { c::vs_write_frames(table.as_ptr(), table.len(), text.as_mut_ptr(), text.len()) }.answer()
+}
+
+/// The table that the text was written from; on a refusal the table stays as it was.
+pub fn read_frames(table: &mut [u32], text: &[u8]) -> Answer {
+    // The pointers and counts are those of slices that live and do not overlap for the time of the call.
+    unsafe { c::vs_read_frames(table.as_mut_ptr(), table.len(), text.as_ptr(), text.len()) }.answer()
 }

@@ -35,3 +35,19 @@ fn a_table_is_filled_asked_and_refused() {
     assert_eq!(clear(&mut table), Ok(0));
     assert_eq!(is_empty(&table), Ok(1));
 }
+
+#[test]
+fn frame_text_reads_back() {
+    let mut table = vec![0; TABLE_WORDS];
+    add_vertex(&mut table, 7).unwrap();
+    add_vertex(&mut table, 9).unwrap();
+    add_hyperedge(&mut table, &[0, 1], 5).unwrap();
+    let mut text = [0; 200];
+    let bytes = write_frames(&table, &mut text).unwrap() as usize;
+    assert_eq!(bytes, 114);
+    let mut other = vec![3; TABLE_WORDS];
+    assert_eq!(read_frames(&mut other, &text[..bytes - 1]), Err(Refusal::BadText(4)));
+    assert_eq!(other, vec![3; TABLE_WORDS]);
+    assert_eq!(read_frames(&mut other, &text[..bytes]), Ok(0));
+    assert_eq!(other, table);
+}

@@ -15,7 +15,7 @@ use Rattle.lists.proofs.Maps.{map-length, map-snoc}
 use Rattle.lists.proofs.Memb.{memb-snoc, memb-snoc-self, memb-left, memb-getD, below-memb}
 use Rattle.steps.specs.Matrices.{turned}
 use Rattle.steps.proofs.Any.{any-at}
-use Rattle.components.specs.Classes.{class, rootsOf, classes}
+use Rattle.components.specs.Classes.{rootsOf}
 use Rattle.components.proofs.Roots.{Equivalence, roots-cover, roots-below, roots-apart}
 
 -- ---- the numbers that pass a test

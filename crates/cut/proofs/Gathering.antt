@@ -22,7 +22,7 @@ use Rattle.lists.proofs.Memb.{memb-at, memb-getD, below-memb}
 use Rattle.lists.proofs.Ascend.{ascending-apart}
 use Rattle.layout.specs.declared.Found.{Found}
 use Rattle.layout.specs.declared.Found.the-variants.{At, Nothing}
-use Rattle.layout.specs.Content.{liveVertices, isLive, position}
+use Rattle.layout.specs.Content.{liveVertices, isLive, position, place}
 use Rattle.layout.specs.Layout.{limit, vertexLimit, vertexCount, hyperedgeCount, hyperedgeAt, membersAt, readHyperedges, read}
 use Rattle.layout.specs.WellFormed.{Formed}
 use Rattle.layout.proofs.Position.{position-here}
@@ -31,7 +31,7 @@ use Rattle.steps.specs.Matrices.{together, listsBoth, numberOf, between, cell, 
 use Rattle.steps.proofs.Any.{any-more}
 use Rattle.steps.proofs.Holds.{holds-ext, holds-none, holds-set}
 use Rattle.steps.proofs.Members.{members-live}
-use Rattle.cut.specs.Cut.{place, recordOf}
+use Rattle.cut.specs.Cut.{recordOf}
 use Rattle.cut.specs.State.{togetherBetween, firstTogether, Gathered, Places, withRow, withPairs}
 
 -- ---- the record of a live vertex: p is what `find_vertex` found

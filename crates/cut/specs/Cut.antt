@@ -7,9 +7,7 @@ use lib.ListN.{length}
 use Rattle.lists.specs.Tests.{_and_}
 use Rattle.lists.specs.Lists.{any, memb, filter}
 use Rattle.walks.specs.Walks.{Reach}
-use Rattle.layout.specs.declared.Found.{Found}
-use Rattle.layout.specs.declared.Found.the-variants.{At, Nothing}
-use Rattle.layout.specs.Content.{Table, liveVertices, position}
+use Rattle.layout.specs.Content.{Table, liveVertices, position, place}
 use Rattle.layout.specs.Answers.{Result, listed}
 use Rattle.graph.specs.Bfs.{bfs}
 use Rattle.edits.specs.Edits.{removeVertex}
@@ -29,11 +27,6 @@ abbrev pub Cut : Table → ℕ → Type 0
 Cut t v = Parted (TogetherIn t) (TogetherIn (removeVertex v t)) v
 
 -- ---- the same, computed: `listed-cut` and `cut-listed` (proofs/Cuts.antt) say that it is the same
-
--- the place that a search found
-abbrev pub place : Found → ℕ
-place (At i) = i
-place Nothing = 0
 
 -- the record of a live vertex
 unfoldable pub recordOf : List ℕ → ℕ → ℕ

@@ -9,7 +9,7 @@ use Rattle.lists.specs.Tests.{_and_}
 use Rattle.lists.specs.Lists.{any, Below}
 use Rattle.layout.specs.Content.{Table}
 use Rattle.layout.specs.Layout.{limit, vertexLimit, vertexCount, read}
-use Rattle.graph.specs.Reach.{matrix, Edge}
+use Rattle.graph.specs.Reach.{Edge}
 use Rattle.steps.specs.Matrices.{together, listsBoth, between, cell, Holds}
 use Rattle.cut.specs.Cut.{Parted}
 

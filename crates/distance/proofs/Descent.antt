@@ -14,7 +14,7 @@ use Rattle.distance.proofs.Path.{path-none, path-more, path-lost, path-
 use Rattle.distance.specs.Cost.{choiceIn, stepIn, costIn, keyIn, stepBack, costBack, keyBack}
 use Rattle.distance.specs.Labels.{Shortest}
 use Rattle.distance.specs.Best.{total, Best}
-use Rattle.distance.specs.Path.{key, tightb, hop, path}
+use Rattle.distance.specs.Path.{tightb, hop, path}
 use Rattle.graph.specs.Reach.{Edge}
 use Rattle.lists.proofs.Cases.{clash}
 use Rattle.distance.specs.Descent.{Down, Descended, Pair}

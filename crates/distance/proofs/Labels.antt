@@ -1,21 +1,20 @@
 -- Labels: a number is 0 unlabelled, 1 labelled, 2 settled; its key is the total of a walk. Assumes nothing.
-use mathlib.Core.Path.{_≡_, refl, sym, ap, _∙_, subst}
+use mathlib.Core.Path.{_≡_, sym, ap, _∙_, subst}
 use mathlib.Core.Bool.{Bool, true, not}
 use mathlib.Core.Logic.{_⊎_, inl, inr, ⊎-elim}
 use mathlib.Core.List.{List}
 use Prim.Native.Nat.{ℕ, zero, suc, _+_, _≤_, _<_}
-use native.Mathlib.Nat.{lt-irrefl, le-antisymm}
+use native.Mathlib.Nat.{lt-irrefl}
 use native.Mathlib.Omega.{arith}
 use lib.Dec.{eqb, ltb}
 use lib.ListN.{length, getD, set, length-set}
-use borrow.Author.Count.{below-more}
 use lib.Seq.{getD-set-same, getD-set-other}
 use borrow.Author.Tests.{eq-eqb, ne-eqb, ltb-true, ltb-false}
 use Rattle.distance.specs.Way.{Way, here, step}
 use Rattle.graph.specs.Reach.{Edge}
-use Rattle.lists.proofs.Cases.{on, on-same, on-below, clash}
+use Rattle.lists.proofs.Cases.{on, on-same, clash}
 use Rattle.lists.proofs.Count.{count-ext, count-flip, count-le}
-use Rattle.distance.specs.Labels.{relM, relD, Relaxed, Labels, live, Shortest, farKey, Open, Nearer, Nearest, Picking}
+use Rattle.distance.specs.Labels.{relM, relD, Relaxed, Labels, live, Shortest}
 
 pub live-le : (n : ℕ) (m : List ℕ) → live n m ≤ n
 unfolding live
@@ -225,101 +224,3 @@ labels-first {E} {W} {n} {s} {b} {r} m d small ls wide long none =
       tight = λ u v lu lv t e. absurd (no-two u lu t);
       order = λ u v lu lv t e. absurd (no-two u lu t);
     }
-
-module _ {n : ℕ} {m d : List ℕ} where
-  best-first : Nearest n m d 0 n
-  best-first = record {
-    small = omega arith;
-    some = λ l. absurd (lt-irrefl n l);
-    none = λ _ v l. absurd (lt-irrefl v (omega arith));
-    least = λ _ v l. absurd (lt-irrefl v (omega arith));
-  }
-
-  module _ {j b : ℕ} (h : Nearest n m d j b) where
-    best-skip : (getD m j 0 ≡ 1 → ⊥) → Nearest n m d (j + 1) b
-    best-skip f = record {
-      small = h .small;
-      some = h .some;
-      none = λ l. below-more (λ v. getD m v 0 ≡ 1 → ⊥) j (h .none l) f;
-      least = λ l. below-more (λ v. getD m v 0 ≡ 1 → getD d b 0 ≤ getD d v 0) j (h .least l) (λ o. absurd (f o));
-    }
-
-    best-keep : b < n → getD d b 0 ≤ getD d j 0 → Nearest n m d (j + 1) b
-    best-keep lb f = record {
-      small = h .small;
-      some = h .some;
-      none = λ l. absurd (lt-irrefl n (omega arith));
-      least = λ l. below-more (λ v. getD m v 0 ≡ 1 → getD d b 0 ≤ getD d v 0) j (h .least l) (λ o. f);
-    }
-
-    best-take : j < n → getD m j 0 ≡ 1 → (b < n → getD d j 0 ≤ getD d b 0) → Nearest n m d (j + 1) j
-    best-take lj o f = record {
-      small = omega arith;
-      some = λ l. o;
-      none = λ l. absurd (lt-irrefl n (omega arith));
-      least = λ l. below-more (λ v. getD m v 0 ≡ 1 → getD d j 0 ≤ getD d v 0) j
-          (λ v lv q. on (ltb b n) (λ e. let lb : b < n = ltb-true b n e in omega (arith, f lb, h .least lb v lv q)) (λ e. absurd (h .none (ltb-false b n e) v lv q)))
-          (λ _. omega arith);
-    }
-
-module _ (mark : ℕ) where
-  pub far-none : mark ≡ 1 → 0 ≡ farKey mark
-  unfolding farKey
-  far-none e = rw (eq-eqb mark 1 e)
-
-  pub far-off : (mark ≡ 1 → ⊥) → 9223372036854775808 ≡ farKey mark
-  unfolding farKey
-  far-off e = rw (ne-eqb mark 1 e)
-
--- f is what `far` found
-module _ (mark key f : ℕ) (e : f ≡ farKey mark) where
-  pub open-far : key < f → Open mark key f
-  open-far l = record { yes = λ o. absurd (lt-irrefl 0 (omega (arith, e, far-none mark o))); no = λ o. omega (arith, e, far-off mark o) }
-
-  pub open-near : f ≤ key → Open mark key key
-  open-near l = record { yes = λ _. refl; no = λ o. omega (arith, e, far-off mark o) }
-
-pub picking-first : (n : ℕ) (m d : List ℕ) → Picking n m d 0 n 9223372036854775808
-picking-first n m d = record { near = best-first; some = λ l. absurd (lt-irrefl n l); none = λ _. refl }
-
--- k is what `open_key` found of v, next and least what `nearer` found
-module _ {n : ℕ} {m d : List ℕ} {v at key : ℕ} (h : Picking n m d v at key) (small : (i : ℕ) → i < n → getD m i 0 ≡ 1 → getD d i 0 < 9223372036854775808) where
-  under : key ≤ 9223372036854775808
-  under = on-below at n (λ l. omega (arith, h .some l, small at l (h .near .some l))) (λ l. omega (arith, h .none l))
-
-  pub picking-more : v < n → (k : ℕ) → Open (getD m v 0) (getD d v 0) k → (next least : ℕ) → Nearer at key v k next least → Picking n m d (v + 1) next least
-  picking-more lv k ek next least r =
-      on-below k key
-      (λ l.
-      let q = r .less l in
-      on-same (getD m v 0) 1
-      (λ o.
-      let e : k ≡ getD d v 0 = ek .yes o in
-      taken (q .0) (q .1 ∙ e) (best-take (h .near) lv o (λ la. omega (arith, h .some la))))
-      (λ o. absurd (lt-irrefl key (omega (arith, ek .no o, under)))))
-      (λ l.
-      let q = r .kept l in
-      on-same (getD m v 0) 1
-      (λ o.
-      let e : k ≡ getD d v 0 = ek .yes o in
-      on-below at n
-      (λ la. held (q .0) (q .1) (best-keep (h .near) la (omega (arith, h .some la))))
-      (λ la. absurd (lt-irrefl key (omega (arith, h .none la, small v lv o)))))
-      (λ o. held (q .0) (q .1) (best-skip (h .near) o)))
-    where
-      taken : next ≡ v → least ≡ getD d v 0 → Nearest n m d (v + 1) v → Picking n m d (v + 1) next least
-      taken e q b = record {
-        near = subst (λ (i : ℕ). Nearest n m d (v + 1) i) (sym e) b;
-        some = λ _. q ∙ ap (λ (i : ℕ). getD d i 0) (sym e);
-        none = λ l. absurd (lt-irrefl n (omega arith));
-      }
-
-      held : next ≡ at → least ≡ key → Nearest n m d (v + 1) at → Picking n m d (v + 1) next least
-      held e q b = record {
-        near = subst (λ (i : ℕ). Nearest n m d (v + 1) i) (sym e) b;
-        some = λ l. q ∙ h .some (omega arith) ∙ ap (λ (i : ℕ). getD d i 0) (sym e);
-        none = λ l. q ∙ h .none (omega arith);
-      }
-
-pub picking-end : {n : ℕ} {m d : List ℕ} {v at key : ℕ} → Picking n m d v at key → v ≤ n → n ≤ v → Nearest n m d n at
-picking-end {n} {m} {d} {v} {at} h a b = subst (λ (j : ℕ). Nearest n m d j at) (le-antisymm a b) (h .near)

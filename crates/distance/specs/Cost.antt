@@ -5,6 +5,7 @@ use mathlib.Core.List.{List}
 use Prim.Native.Nat.{ℕ, _+_, _-_, _*_, _≤_, _<_}
 use lib.Dec.{eqb}
 use lib.ListN.{length, getD, set}
+use Rattle.lists.specs.Tests.{count}
 use Rattle.distance.specs.Labels.{relM, relD, Labels, live, Nearest}
 
 -- what the matrix c chose for the step from u to v: 0 where there is no such step
@@ -32,23 +33,28 @@ costBack c w x v = costIn c w v x
 abbrev pub keyBack : List ℕ → List ℕ → ℕ → ℕ → ℕ
 keyBack c w x v = keyIn c w v x
 
+-- how many steps u has
+unfoldable pub stepCount : List ℕ → ℕ → ℕ
+stepCount c u = count (stepIn c u) 256
+
+-- the lists of the steps: those of u are the first `counts u` places from u * 256 on; every step stands in one, and once
+pub record Listed (c lists counts : List ℕ) : Type 0 where
+  pub sized : length lists ≡ 65536
+  pub rows : length counts ≡ 256
+  pub counted : (u : ℕ) → u < 256 → getD counts u 0 ≡ stepCount c u
+  pub each : (u i : ℕ) → u < 256 → i < getD counts u 0 → (getD lists (u * 256 + i) 0 < 256) × (stepIn c u (getD lists (u * 256 + i) 0) ≡ true)
+  pub all : (u v : ℕ) → u < 256 → v < 256 → stepIn c u v ≡ true → (i : ℕ) × (i < getD counts u 0) × (getD lists (u * 256 + i) 0 ≡ v)
+
+-- no step leads from a number below n to one that is not
+abbrev pub Within : ℕ → List ℕ → Type 0
+Within n c = (u v : ℕ) → u < n → v < 256 → stepIn c u v ≡ true → v < n
+
 -- what the step from the settled number u does to the mark and the key of v
 pub record One (E : ℕ → ℕ → Bool) (W : ℕ → ℕ → ℕ) (u v base : ℕ) (m d m′ d′ : List ℕ) : Type 0 where
   pub bounded : E u v ≡ true → W u v ≤ 281474976710656
   pub marks : m′ ≡ set m v (relM (E u v) (getD m v 0))
   pub keys : d′ ≡ set d v (relD (E u v) (getD m v 0) (getD d v 0) (base + W u v))
 
--- the steps to the numbers below v are done
-pub record Part (E : ℕ → ℕ → Bool) (W : ℕ → ℕ → ℕ) (n u : ℕ) (m₀ d₀ : List ℕ) (v : ℕ) (m d : List ℕ) : Type 0 where
-  pub within : v ≤ n
-  pub wide : length m ≡ 256
-  pub long : length d ≡ 256
-  pub bounded : (i : ℕ) → i < v → E u i ≡ true → W u i ≤ 281474976710656
-  pub marks : (i : ℕ) → i < v → getD m i 0 ≡ relM (E u i) (getD m₀ i 0)
-  pub keys : (i : ℕ) → i < v → getD d i 0 ≡ relD (E u i) (getD m₀ i 0) (getD d₀ i 0) (getD d₀ u 0 + W u i)
-  pub marks-on : (i : ℕ) → v ≤ i → getD m i 0 ≡ getD m₀ i 0
-  pub keys-on : (i : ℕ) → v ≤ i → getD d i 0 ≡ getD d₀ i 0
-
 -- the search: every settled number adds a step's bound
 abbrev pub Search : (ℕ → ℕ → Bool) → (ℕ → ℕ → ℕ) → ℕ → ℕ → List ℕ → List ℕ → ℕ → Type 0
-Search E W n s m d u = Labels E W n s ((n - live n m) * 281474976710656) (n - live n m) m d × Nearest n m d n u
+Search E W n s m d u = Labels E W n s ((n - live n m) * 281474976710656) (n - live n m) m d × Nearest n m d u

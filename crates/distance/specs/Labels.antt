@@ -48,29 +48,9 @@ pub record Shortest (E : ℕ → ℕ → Bool) (W : ℕ → ℕ → ℕ) (n s : 
   pub way : (y : ℕ) → y < n → getD m y 0 ≡ 2 → (j : ℕ) × (j ≤ n) × Way (Edge E n) W s y (getD d y 0) j
   pub least : (y k j : ℕ) → Way (Edge E n) W s y k j → (getD m y 0 ≡ 2) × (getD d y 0 ≤ k)
 
--- the labelled number of least key among those below j, or n
-pub record Nearest (n : ℕ) (m d : List ℕ) (j b : ℕ) : Type 0 where
+-- the labelled number of least key, or n
+pub record Nearest (n : ℕ) (m d : List ℕ) (b : ℕ) : Type 0 where
   pub small : b ≤ n
   pub some : b < n → getD m b 0 ≡ 1
-  pub none : n ≤ b → (v : ℕ) → v < j → getD m v 0 ≡ 1 → ⊥
-  pub least : b < n → (v : ℕ) → v < j → getD m v 0 ≡ 1 → getD d b 0 ≤ getD d v 0
-
--- 0 for the mark of a labelled number, above every key for any other
-unfoldable pub farKey : ℕ → ℕ
-farKey mark = cond (eqb mark 1) 0 9223372036854775808
-
--- the key of a labelled number; above every key where it is not labelled or is settled
-pub record Open (mark key r : ℕ) : Type 0 where
-  pub yes : mark ≡ 1 → r ≡ key
-  pub no : (mark ≡ 1 → ⊥) → 9223372036854775808 ≤ r
-
--- of a number and the number v, each with its key, the one of the lesser key, the first on a tie
-pub record Nearer (at key v k next least : ℕ) : Type 0 where
-  pub less : k < key → (next ≡ v) × (least ≡ k)
-  pub kept : key ≤ k → (next ≡ at) × (least ≡ key)
-
--- the nearest among those below j, and its key
-pub record Picking (n : ℕ) (m d : List ℕ) (j at key : ℕ) : Type 0 where
-  pub near : Nearest n m d j at
-  pub some : at < n → key ≡ getD d at 0
-  pub none : n ≤ at → key ≡ 9223372036854775808
+  pub none : n ≤ b → (v : ℕ) → v < n → getD m v 0 ≡ 1 → ⊥
+  pub least : b < n → (v : ℕ) → v < n → getD m v 0 ≡ 1 → getD d b 0 ≤ getD d v 0

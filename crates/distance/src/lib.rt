@@ -2,65 +2,13 @@
 ghost use mathlib.Core.Path.{_≡_};
 ghost use Prim.Native.Nat.{ℕ, _+_, _*_, _<_, _≤_};
 ghost use lib.ListN.{length, getD};
-ghost use Rattle.distance.specs.Labels.{farKey, Open, Nearer, Nearest, Relaxed, Shortest};
-ghost use Rattle.distance.specs.Cost.{stepIn, keyIn, stepBack, costBack, keyBack, One};
+ghost use Rattle.distance.specs.Labels.{Relaxed, Shortest};
+ghost use Rattle.distance.specs.Blocks.{Blocks};
+ghost use Rattle.distance.specs.Cost.{stepIn, keyIn, stepBack, costBack, keyBack, Listed, Within, One};
 ghost use Rattle.distance.specs.Path.{tightb, hop};
 ghost use Rattle.distance.specs.Descent.{Descended, Pair};
 
-// The nearest number so far, and its key.
-struct Near {
-    at: usize,
-    key: u64,
-}
-
-// 0 for the mark of a labelled number, above every key for any other.
-fn far(mark: u8) -> u64
-    ensures { λ r. ⌜ r ≡ farKey mark ⌝ }
-{
-    if mark == 1 {
-        return 0;
-    }
-    9223372036854775808
-}
-
-// The key of a labelled number; above every key where it is not labelled or is settled.
-fn open_key(mark: u8, key: u64) -> u64
-    ensures { λ r. ⌜ Open mark key r ⌝ }
-{
-    let f = far(mark);
-    if key < f {
-        return f;
-    }
-    key
-}
-
-// The nearer of the nearest so far and v.
-fn nearer(p: Near, v: usize, key: u64) -> Near
-    ensures { λ r. ⌜ Nearer (p .at) (p .key) v key (r .at) (r .key) ⌝ }
-{
-    if key < p.key {
-        return Near { at: v, key: key };
-    }
-    p
-}
-
-// The labelled number of least key, or n.
-fn pick(n: usize, m: &[u8; 256], d: &[u64; 256]) -> usize
-    requires { ⌜ (n ≤ 256) × ((v : ℕ) → v < n → getD (now m) v 0 ≡ 1 → getD (now d) v 0 < 9223372036854775808) ⌝ }
-    ensures { λ r. ⌜ Nearest n (now (m .entry)) (now (d .entry)) n r ⌝ }
-{
-    let mut p = Near {
-        at: n,
-        key: 9223372036854775808,
-    };
-    let mut v = 0;
-    while v < n {
-        let next = nearer(p, v, open_key(m[v], d[v]));
-        p = next;
-        v += 1;
-    }
-    p.at
-}
+mod blocks;
 
 // The cost of choice h.
 fn cost_of(w: &[u32; 256], h: u8) -> u32
@@ -81,14 +29,16 @@ fn by(base: u64, w: u32) -> u64
 fn relax_one(
     c: &[u8; 65536],
     w: &[u32; 256],
+    n: usize,
     u: usize,
     v: usize,
     base: u64,
     m: &mut [u8; 256],
     d: &mut [u64; 256],
+    b: &mut [u64; 16],
 )
-    requires { ⌜ (u < 256) × (v < 256) × (base ≤ 144115188075855872) ⌝ }
-    ensures { λ r. ⌜ One (stepIn (now (c .entry))) (keyIn (now (c .entry)) (now (w .entry))) u v base (now (m .entry)) (now (d .entry)) (now (m .exit)) (now (d .exit)) ⌝ }
+    requires { ⌜ (n ≤ 256) × (u < 256) × (v < n) × (base ≤ 144115188075855872) × (length (now m) ≡ 256) × (length (now d) ≡ 256) × Blocks n (now m) (now d) (now b) ⌝ }
+    ensures { λ r. ⌜ One (stepIn (now (c .entry))) (keyIn (now (c .entry)) (now (w .entry))) u v base (now (m .entry)) (now (d .entry)) (now (m .exit)) (now (d .exit)) × Blocks n (now (m .exit)) (now (d .exit)) (now (b .exit)) ⌝ }
 {
     let h = c[u * 256 + v];
     if h == 0 {
@@ -96,28 +46,38 @@ fn relax_one(
     }
     let key = by(base, cost_of(w, h));
     if m[v] == 0 {
-        m[v] = 1;
-        d[v] = key;
+        blocks::label(n, v, key, m, d, b);
         return;
     }
     if m[v] != 1 {
         return;
     }
     if key < d[v] {
-        d[v] = key;
+        blocks::label(n, v, key, m, d, b);
     }
 }
 
-// The steps of the settled number u.
-fn relax(c: &[u8; 65536], w: &[u32; 256], n: usize, u: usize, m: &mut [u8; 256], d: &mut [u64; 256])
-    requires { ⌜ (n ≤ 256) × (u < n) × (length (now m) ≡ 256) × (length (now d) ≡ 256) × (getD (now d) u 0 ≤ 144115188075855872) ⌝ }
-    ensures { λ r. ⌜ Relaxed (stepIn (now (c .entry))) (keyIn (now (c .entry)) (now (w .entry))) 281474976710656 n u (now (m .entry)) (now (d .entry)) (now (m .exit)) (now (d .exit)) ⌝ }
+// The steps of the settled number u, by its list.
+fn relax(
+    c: &[u8; 65536],
+    w: &[u32; 256],
+    lists: &[u8; 65536],
+    counts: &[u32; 256],
+    n: usize,
+    u: usize,
+    m: &mut [u8; 256],
+    d: &mut [u64; 256],
+    b: &mut [u64; 16],
+)
+    requires { ⌜ (n ≤ 256) × (u < n) × (length (now m) ≡ 256) × (length (now d) ≡ 256) × (getD (now d) u 0 ≤ 144115188075855872) × Blocks n (now m) (now d) (now b) × Listed (now c) (now lists) (now counts) × Within n (now c) ⌝ }
+    ensures { λ r. ⌜ Relaxed (stepIn (now (c .entry))) (keyIn (now (c .entry)) (now (w .entry))) 281474976710656 n u (now (m .entry)) (now (d .entry)) (now (m .exit)) (now (d .exit)) × Blocks n (now (m .exit)) (now (d .exit)) (now (b .exit)) ⌝ }
 {
     let base = d[u];
-    let mut v = 0;
-    while v < n {
-        relax_one(c, w, u, v, base, m, d);
-        v += 1;
+    let end = counts[u] as usize;
+    let mut i = 0;
+    while i < end {
+        relax_one(c, w, n, u, lists[u * 256 + i] as usize, base, m, d, b);
+        i += 1;
     }
 }
 
@@ -125,21 +85,23 @@ fn relax(c: &[u8; 65536], w: &[u32; 256], n: usize, u: usize, m: &mut [u8; 256],
 pub fn dijkstra(
     c: &[u8; 65536],
     w: &[u32; 256],
+    lists: &[u8; 65536],
+    counts: &[u32; 256],
     n: usize,
     s: usize,
     m: &mut [u8; 256],
     d: &mut [u64; 256],
 )
-    requires { ⌜ (n ≤ 256) × (s < n) × (length (now m) ≡ 256) × (length (now d) ≡ 256) × ((v : ℕ) → v < n → getD (now m) v 0 ≡ 0) ⌝ }
+    requires { ⌜ (n ≤ 256) × (s < n) × (length (now m) ≡ 256) × (length (now d) ≡ 256) × ((v : ℕ) → v < n → getD (now m) v 0 ≡ 0) × Listed (now c) (now lists) (now counts) × Within n (now c) ⌝ }
     ensures { λ r. ⌜ Shortest (stepIn (now (c .entry))) (keyIn (now (c .entry)) (now (w .entry))) n s (now (m .exit)) (now (d .exit)) ⌝ }
 {
-    m[s] = 1;
-    d[s] = 0;
-    let mut u = pick(n, m, d);
+    let mut b = [9223372036854775808u64; 16];
+    blocks::label(n, s, 0, m, d, &mut b);
+    let mut u = blocks::pick(n, m, d, &b);
     while u < n {
-        m[u] = 2;
-        relax(c, w, n, u, m, d);
-        u = pick(n, m, d);
+        blocks::settle(n, u, m, d, &mut b);
+        relax(c, w, lists, counts, n, u, m, d, &mut b);
+        u = blocks::pick(n, m, d, &b);
     }
 }
 
@@ -222,17 +184,19 @@ pub struct Walked {
 pub fn best_walk(
     c: &[u8; 65536],
     w: &[u32; 256],
+    lists: &[u8; 65536],
+    counts: &[u32; 256],
     n: usize,
     x: usize,
     y: usize,
     out: &mut [u32; 256],
 ) -> Walked
-    requires { ⌜ (n ≤ 256) × (x < n) × (y < n) × (length (now out) ≡ 256) ⌝ }
+    requires { ⌜ (n ≤ 256) × (x < n) × (y < n) × (length (now out) ≡ 256) × Listed (now c) (now lists) (now counts) × Within n (now c) ⌝ }
     ensures { λ r. ⌜ Pair (stepBack (now (c .entry))) (costBack (now (c .entry)) (now (w .entry))) n x y (r .ok) (r .cost) (r .steps) (now (out .exit)) ⌝ }
 {
     let mut m = [0u8; 256];
     let mut d = [0u64; 256];
-    dijkstra(c, w, n, y, &mut m, &mut d);
+    dijkstra(c, w, lists, counts, n, y, &mut m, &mut d);
     if m[x] != 2 {
         return Walked {
             ok: false,

@@ -2,8 +2,11 @@
 use mathlib.Core.Path.{_≡_, sym, ap, _∙_}
 use mathlib.Core.Bool.{Bool, true, false, not}
 use mathlib.Core.List.{List}
-use Prim.Native.Nat.{ℕ, _+_, _-_, _≤_, _<_}
-use lib.ListN.{length, getD, take, drop}
+use Prim.Native.Nat.{ℕ, _+_, _-_, _*_, _%_, _≤_, _<_}
+use native.Mathlib.Nat.{mod-lt}
+use native.Mathlib.Omega.{arith}
+use lib.Dec.{lit<}
+use lib.ListN.{length, getD, take, drop, length-take}
 use borrow.Author.Tests.{not-true, not-false, lt-ltb, le-ltb, le-leb, lt-leb, eq-eqb, ne-eqb}
 use Rattle.lists.specs.Tests.{_and_, every}
 use Rattle.lists.specs.Lists.{all, zeros, isBelow, Ascending}
@@ -16,7 +19,7 @@ use Rattle.lists.proofs.Ascend.{climbs, climbs-is}
 use Rattle.layout.specs.declared.Found.{Found}
 use Rattle.layout.specs.declared.Found.the-variants.{At, Nothing}
 use Rattle.layout.specs.Content.{isLive, numbered, membersLive, valid, position}
-use Rattle.layout.specs.Layout.{vertexLimit, hyperedgeLimit, vertexSize, recordSize, verticesAt, hyperedgesAt, size, vertexWord, hyperedgeWord, nextVertexIn, nextHyperedgeIn, vertexCount, hyperedgeCount, countAt, membersAt, hyperedgeAt, read}
+use Rattle.layout.specs.Layout.{limit, vertexLimit, hyperedgeLimit, vertexSize, recordSize, verticesAt, hyperedgesAt, size, vertexWord, hyperedgeWord, nextVertexIn, nextHyperedgeIn, vertexCount, hyperedgeCount, countAt, membersAt, hyperedgeAt, read}
 use Rattle.layout.specs.WellFormed.{recordShaped, unusedVertices, unusedHyperedges, shaped, wellFormed, Shaped, column, vertexColumn}
 use Rattle.layout.proofs.Position.{found-live, missing-dead, dense-live}
 use Rattle.layout.proofs.Shape.{shaped-of}
@@ -99,6 +102,10 @@ module _ (xs : List ℕ) (x : ℕ) (p : Found) (e : p ≡ position x xs) where
   pub search-live : (i : ℕ) → p ≡ At i → true ≡ isLive xs x
   search-live i h = sym (found-live x xs i (sym e ∙ h))
 
+-- where a guessed eighth begins
+pub eighth-low : (e : ℕ) → e % 8 * 32 ≤ 224
+eighth-low e = let h : e % 8 < 8 = mod-lt e (lit< tt) in omega arith
+
 -- the hint's place has the number
 pub hint-live : (ws : List ℕ) (n p x y : ℕ) → y ≡ getD ws (vertexWord p) 0 → p < n → y ≡ x → true ≡ isLive (column ws verticesAt vertexSize n) x
 hint-live ws n p x y e h q =
@@ -106,6 +113,9 @@ hint-live ws n p x y e h q =
     (memb-getD (column ws verticesAt vertexSize n) p (rw length-tab h)))
 
 -- ms is what `members` returned
+pub members-few : (ws ms : List ℕ) (j : ℕ) → ms ≡ membersAt limit ws j → countAt limit ws j ≤ limit → length ms ≤ vertexLimit
+members-few ws ms j e h = rw (e, length-take) (omega arith)
+
 pub members-are : (L : ℕ) (live ws ms : List ℕ) (j : ℕ) → ms ≡ membersAt L ws j → all (isLive live) ms ≡ recordLive L live ws j
 unfolding recordLive membersLive
 members-are L live ws ms j e = rw e

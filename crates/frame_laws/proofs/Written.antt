@@ -11,7 +11,7 @@ use Rattle.lists.specs.Lists.{all}
 use Rattle.lists.proofs.Cases.{and-left, and-both}
 use Rattle.layout.specs.declared.Answer.the-variants.{Done}
 use Rattle.layout.specs.Content.{Table}
-use Rattle.layout.specs.Layout.{limit, size, read, words}
+use Rattle.layout.specs.Layout.{limit, size, read}
 use Rattle.layout.specs.WellFormed.{wellFormed}
 use Rattle.layout.specs.Answers.{result}
 use Rattle.layout.proofs.Shape.{shaped-of}
@@ -60,3 +60,9 @@ round-trip ws lent f e len =
     let d : Held t = held-of t (read-holdable limit ws e) in
     let w : Worded t = read-worded ws f in
     rw (eq-eqb (length lent) (size limit) len, text-accepted t d w, text-content t d w, words-read limit ws (shaped-of limit ws (and-left _ _ e)))
+
+-- the content that stands in it is that of the table that it was written from
+pub written-content : (text : List ℕ) (w : Written text) → contentOf text ≡ read limit (w .table)
+written-content text w =
+    let t : Table = read limit (w .table) in
+    ap contentOf (sym (w .gives)) ∙ text-content t (held-of t (read-holdable limit (w .table) (w .formed))) (read-worded (w .table) (w .fits))

@@ -1,20 +1,22 @@
 -- Bytes as digits: where they are put, and their sums. Assumes nothing.
 use mathlib.Core.Path.{_≡_, refl, _∙_}
 use mathlib.Core.Bool.{Bool, true}
+use mathlib.Core.Logic.{_⊎_, ⊎-elim}
 use mathlib.Core.List.{List, [], _∷_, _++_, append-assoc}
-use Prim.Native.Nat.{ℕ, _+_, _/_, _%_, _≤_, _<_}
-use native.Mathlib.Nat.{le-antisymm}
+use Prim.Native.Nat.{ℕ, _+_, _*_, _/_, _%_, _≤_, _<_}
+use native.Mathlib.Nat.{le-antisymm, not-suc-le-zero, le-of-suc-le-suc, eq-or-lt-of-le}
 use native.Mathlib.Numerals.{add-one}
 use native.Mathlib.Omega.{arith}
 use lib.Dec.{eqb}
-use lib.ListN.{length, getD, set, take, drop}
-use lib.Seq.{sets-eq, paste, paste-suc, take-length}
+use lib.ListN.{length, getD, set, take, drop, length-set}
+use lib.Seq.{getD-set-same, getD-set-other, sets-eq, paste, paste-suc, take-length}
 use borrow.Author.Tests.{eqb-true}
 use Rattle.lists.specs.Tests.{_and_, every}
 use Rattle.lists.specs.Lists.{flat}
 use Rattle.lists.proofs.Every.{every-at}
 use Rattle.frames.specs.Frames.{byteValues, byteOf, numberBytes, shortBytes, byteSum, balance, digit, byteDigits, digits, numberDigits, lineEnd}
 use Rattle.frames.specs.Put.{pasted, Put}
+use Rattle.frames.specs.Pairs.{Pairs}
 use Rattle.frames.proofs.Laws.{put-append, put-as}
 
 -- ---- the table of digits
@@ -34,16 +36,49 @@ pub table-digit : (k : ℕ) → k < 16 → getD table k 0 ≡ digit k
 unfolding right
 table-digit k h = eqb-true (getD table k 0) (digit k) (every-at right 16 k rule h)
 
+-- ---- the digits of every byte: those of the bytes below b
+
+pub pairs-none : (ps : List ℕ) → length ps ≡ byteValues * 2 → Pairs 0 ps
+pairs-none ps e = record { sized = e; high = λ c h. absurd (not-suc-le-zero h); low = λ c h. absurd (not-suc-le-zero h) }
+
+module _ (b : ℕ) (ps : List ℕ) (p : Pairs b ps) (h : b < byteValues) where
+  abbrev x : ℕ
+  x = getD table (b / 16) 0
+
+  abbrev y : ℕ
+  y = getD table (b % 16) 0
+
+  b-or-below : (c : ℕ) → c < b + 1 → (c ≡ b) ⊎ (c < b)
+  b-or-below c l = eq-or-lt-of-le (le-of-suc-le-suc (rw (← add-one b) l))
+
+  high-more : (c : ℕ) → c < b + 1 → getD (set (set ps (b * 2) x) (b * 2 + 1) y) (c * 2) 0 ≡ digit (c / 16)
+  high-more c l =
+      getD-set-other (set ps (b * 2) x) (b * 2 + 1) (c * 2) y 0 (λ e. omega arith)
+      ∙ ⊎-elim (λ q. rw q (getD-set-same ps (b * 2) x 0 (omega (arith, p .sized)) ∙ table-digit (b / 16) (omega arith)))
+      (λ k. getD-set-other ps (b * 2) (c * 2) x 0 (λ e. omega arith) ∙ p .high c k) (b-or-below c l)
+
+  low-more : (c : ℕ) → c < b + 1 → getD (set (set ps (b * 2) x) (b * 2 + 1) y) (c * 2 + 1) 0 ≡ digit (c % 16)
+  low-more c l =
+      ⊎-elim (λ q. rw q (getD-set-same (set ps (b * 2) x) (b * 2 + 1) y 0 (simp length-set (omega (arith, p .sized))) ∙ table-digit (b % 16) (omega arith)))
+      (λ k. getD-set-other (set ps (b * 2) x) (b * 2 + 1) (c * 2 + 1) y 0 (λ e. omega arith) ∙ getD-set-other ps (b * 2) (c * 2 + 1) x 0 (λ e. omega arith) ∙ p .low c k) (b-or-below c l)
+
+  pub pairs-more : Pairs (b + 1) (set (set ps (b * 2) x) (b * 2 + 1) y)
+  pairs-more = record { sized = simp length-set (p .sized); high = high-more; low = low-more }
+
+pub pairs-end : (b : ℕ) (ps : List ℕ) → Pairs b ps → b ≤ byteValues → byteValues ≤ b → Pairs byteValues ps
+pairs-end b ps p h l = rw (← le-antisymm h l) p
+
 -- ---- a byte's two digits
 
-pub byte-put : (at b x y : ℕ) (text : List ℕ) → at + 2 ≤ length text → x ≡ digit (b / 16) → y ≡ digit (b % 16)
-    → Put at 2 (byteDigits b) text (set (set text at x) (at + 1) y) (at + 2)
+-- ps holds the digits of every byte
+pub byte-put : (at b : ℕ) (ps text : List ℕ) → Pairs byteValues ps → b < byteValues → at + 2 ≤ length text
+    → Put at 2 (byteDigits b) text (set (set text at (getD ps (b * 2) 0)) (at + 1) (getD ps (b * 2 + 1) 0)) (at + 2)
 unfolding byteDigits pasted
-byte-put at b x y text f ex ey = record {
+byte-put at b ps text p h f = record {
   sized = refl;
   fits = f;
   reached = refl;
-  wrote = rw (ex, ey, add-one at)
+  wrote = rw (p .high b h, p .low b h, add-one at)
       (sets-eq (digit (b / 16) ∷ digit (b % 16) ∷ []) text at f ∙ append-assoc (take at text) (digit (b / 16) ∷ digit (b % 16) ∷ []) (drop (at + 2) text));
 }
 

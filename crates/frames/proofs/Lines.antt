@@ -57,9 +57,18 @@ pub head-put : (x y n m : ℕ) {p q r s u v i j k l : ℕ} {a b c d e f g : List
 head-put x y n m o p q r s ei ej ek el z =
     line-put (headFrame x y n m) _ (head-sum x y n m ei ej ek el) (put-as refl (head-is x y n m) (put-append o (put-append p (put-append q (put-append r s))))) z
 
+-- ---- what the line of a record begins with: its kind, number and weight
+
+abbrev recordDigits : ℕ → ℕ → ℕ → List ℕ
+recordDigits kind x w = byteDigits kind ++ (numberDigits x ++ numberDigits w)
+
+pub record-put : (kind x w : ℕ) {at p q r : ℕ} {a b c d : List ℕ} → Put at 2 (byteDigits kind) a b p → Put p 8 (numberDigits x) b c q → Put q 8 (numberDigits w) c d r
+    → Put at 18 (recordDigits kind x w) a d r
+record-put kind x w o p q = put-append o (put-append p q)
+
 -- ---- a vertex line
 
-vertex-is : (x w : ℕ) → byteDigits 1 ++ (numberDigits x ++ numberDigits w) ≡ digits (vertexFrame (vertexOf x w))
+vertex-is : (x w : ℕ) → recordDigits 1 x w ≡ digits (vertexFrame (vertexOf x w))
 unfolding vertexFrame numberDigits digits flat numberBytes byteDigits
 vertex-is x w = refl
 
@@ -67,13 +76,11 @@ vertex-sum : (x w : ℕ) {a b : ℕ} → a ≡ byteSum (numberBytes x) → b ≡
 unfolding vertexFrame byteSum
 vertex-sum x w e f = simp sum-append (omega arith)
 
-pub vertex-put : (x w : ℕ) {at p q r s i j : ℕ} {a b c d e : List ℕ}
-    → Put at 2 (byteDigits 1) a b p → Put p 8 (numberDigits x) b c q → Put q 8 (numberDigits w) c d r
-    → i ≡ byteSum (numberBytes x) → j ≡ byteSum (numberBytes w) → Put r 3 (byteDigits (balance (1 + i + j)) ++ lineEnd) d e s
-    → Put at vertexLength (vertexLine (vertexOf x w)) a e s
+pub vertex-put : (x w : ℕ) {at p q i j : ℕ} {a b c : List ℕ}
+    → Put at 18 (recordDigits 1 x w) a b p → i ≡ byteSum (numberBytes x) → j ≡ byteSum (numberBytes w)
+    → Put p 3 (byteDigits (balance (1 + i + j)) ++ lineEnd) b c q → Put at vertexLength (vertexLine (vertexOf x w)) a c q
 unfolding vertexLine
-vertex-put x w o p q ei ej z =
-    line-put (vertexFrame (vertexOf x w)) _ (vertex-sum x w ei ej) (put-as refl (vertex-is x w) (put-append o (put-append p q))) z
+vertex-put x w o ei ej z = line-put (vertexFrame (vertexOf x w)) _ (vertex-sum x w ei ej) (put-as refl (vertex-is x w) o) z
 
 -- ---- the members of a hyperedge line: i of them
 
@@ -116,25 +123,22 @@ members-are [] = refl
 members-are (x ∷ ms) = ap (λ (r : List ℕ). flat byteDigits (numberBytes x) ++ r) (members-are ms) ∙ sym (flat-append byteDigits (numberBytes x) (flat numberBytes ms))
 
 module _ (x w : ℕ) (ms : List ℕ) where
-  hyperedge-is : byteDigits 2 ++ (numberDigits x ++ (numberDigits w ++ (byteDigits (length ms) ++ flat numberDigits ms))) ≡ digits (hyperedgeFrame (hyperedgeOf x w ms))
+  hyperedge-is : recordDigits 2 x w ++ (byteDigits (length ms) ++ flat numberDigits ms) ≡ digits (hyperedgeFrame (hyperedgeOf x w ms))
   unfolding hyperedgeFrame numberDigits digits flat numberBytes byteDigits
-  hyperedge-is =
-      ap (λ (r : List ℕ). byteDigits 2 ++ (numberDigits x ++ (numberDigits w ++ (byteDigits (length ms) ++ r)))) (members-are ms) ∙ computed (flat numberBytes ms)
+  hyperedge-is = ap (λ (r : List ℕ). recordDigits 2 x w ++ (byteDigits (length ms) ++ r)) (members-are ms) ∙ computed (flat numberBytes ms)
     where
-      computed : (rest : List ℕ) → byteDigits 2 ++ (numberDigits x ++ (numberDigits w ++ (byteDigits (length ms) ++ flat byteDigits rest))) ≡ flat byteDigits (2 ∷ (numberBytes x ++ (numberBytes w ++ (length ms ∷ rest))))
+      computed : (rest : List ℕ) → recordDigits 2 x w ++ (byteDigits (length ms) ++ flat byteDigits rest) ≡ flat byteDigits (2 ∷ (numberBytes x ++ (numberBytes w ++ (length ms ∷ rest))))
       computed rest = refl
 
-  hyperedge-sum : {a b c : ℕ} → a ≡ byteSum (numberBytes x) → b ≡ byteSum (numberBytes w) → c ≡ byteSum (flat numberBytes ms)
+  pub hyperedge-sum : {a b c : ℕ} → a ≡ byteSum (numberBytes x) → b ≡ byteSum (numberBytes w) → c ≡ byteSum (flat numberBytes ms)
       → 2 + (a + b) + length ms + c ≡ byteSum (hyperedgeFrame (hyperedgeOf x w ms))
   unfolding hyperedgeFrame byteSum
   hyperedge-sum e f g = simp sum-append (omega arith)
 
-  pub hyperedge-put : {at p q r s u v i j k : ℕ} {a b c d e f g : List ℕ}
-      → Put at 2 (byteDigits 2) a b p → Put p 8 (numberDigits x) b c q → Put q 8 (numberDigits w) c d r → Put r 2 (byteDigits (length ms)) d e s
-      → Put s (length ms * memberLength) (flat numberDigits ms) e f u
-      → i ≡ byteSum (numberBytes x) → j ≡ byteSum (numberBytes w) → k ≡ byteSum (flat numberBytes ms)
-      → Put u 3 (byteDigits (balance (2 + (i + j) + length ms + k)) ++ lineEnd) f g v → Put at (hyperedgeLength (length ms)) (hyperedgeLine (hyperedgeOf x w ms)) a g v
+  pub hyperedge-put : {at p q r s sum : ℕ} {a b c d e : List ℕ}
+      → Put at 18 (recordDigits 2 x w) a b p → Put p 2 (byteDigits (length ms)) b c q → Put q (length ms * memberLength) (flat numberDigits ms) c d r
+      → sum ≡ byteSum (hyperedgeFrame (hyperedgeOf x w ms)) → Put r 3 (byteDigits (balance sum) ++ lineEnd) d e s
+      → Put at (hyperedgeLength (length ms)) (hyperedgeLine (hyperedgeOf x w ms)) a e s
   unfolding hyperedgeLine
-  hyperedge-put o p q r s ei ej ek z =
-      put-as (omega arith) refl
-      (line-put (hyperedgeFrame (hyperedgeOf x w ms)) _ (hyperedge-sum ei ej ek) (put-as refl hyperedge-is (put-append o (put-append p (put-append q (put-append r s))))) z)
+  hyperedge-put o p q es z =
+      put-as (omega arith) refl (line-put (hyperedgeFrame (hyperedgeOf x w ms)) _ es (put-as refl hyperedge-is (put-append o (put-append p q))) z)

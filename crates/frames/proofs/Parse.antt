@@ -238,10 +238,6 @@ module _ (text : List ℕ) (p : ℕ) (xs : List ℕ) where
   unfolding standsAt
   stands-by rest e = rw (e, take-at xs rest (length xs) refl) (same-refl xs)
 
-  pub stands-room : p ≤ length text → standsAt text p xs ≡ true → p + length xs ≤ length text
-  stands-room h e =
-      omega (arith, ap length (stands-eq e), length-append xs (drop (p + length xs) text), length-drop p text)
-
 -- ---- frames
 
 -- the last byte is the one that makes the sum 0

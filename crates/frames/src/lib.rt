@@ -7,8 +7,9 @@ ghost use Rattle.lists.specs.Lists.{tab, flat};
 ghost use Rattle.layout.specs.Layout.{limit, vertexLimit, size, hyperedgeCount, vertexAt, hyperedgeAt, membersAt, read};
 ghost use Rattle.layout.specs.WellFormed.{Formed};
 ghost use Rattle.layout.specs.Answers.{result, onFormed};
-ghost use Rattle.frames.specs.Frames.{byteOf, numberBytes, shortBytes, headFrame, byteSum, balance, digit, byteDigits, digits, lineEnd, line, vertexLine, hyperedgeLine, frameText, numberDigits, vertexOf, hyperedgeOf, headLength, vertexLength, memberLength, hyperedgeLength, writeResult};
+ghost use Rattle.frames.specs.Frames.{byteValues, byteOf, numberBytes, shortBytes, headFrame, hyperedgeFrame, byteSum, balance, digit, byteDigits, digits, lineEnd, line, vertexLine, hyperedgeLine, frameText, numberDigits, vertexOf, hyperedgeOf, headLength, vertexLength, memberLength, hyperedgeLength, writeResult};
 ghost use Rattle.frames.specs.Put.{Put};
+ghost use Rattle.frames.specs.Pairs.{Pairs};
 use layout::Answer;
 
 const DIGITS: [u8; 16] = *b"0123456789ABCDEF";
@@ -40,12 +41,33 @@ pub fn digit(k: u8) -> u8
     DIGITS[k as usize]
 }
 
-fn put_byte(text: &mut [u8], at: usize, b: u8) -> usize
+// The digits of every byte, made once for a text: those of byte b stand at b * 2.
+fn byte_pairs() -> [u8; 512]
+    ensures { λ r. ⌜ Pairs byteValues r ⌝ }
+{
+    // an index into a constant copies the whole of it, so it is copied once
+    let digits = DIGITS;
+    let mut pairs = [0u8; 512];
+    let mut b = 0;
+    while b < BYTE_VALUES {
+        pairs[b * 2] = digits[b / 16];
+        pairs[b * 2 + 1] = digits[b % 16];
+        b += 1;
+    }
+    pairs
+}
+
+// Both digits are read before either is written, so that they can be moved at once.
+fn put_byte(text: &mut [u8], at: usize, pairs: &[u8; 512], b: u8) -> usize
+    requires { ⌜ Pairs byteValues (now pairs) ⌝ }
     requires { ⌜ at + 2 ≤ length (now text) ⌝ }
     ensures { λ r. ⌜ Put at 2 (byteDigits b) (now (text .entry)) (now (text .exit)) r ⌝ }
 {
-    text[at] = digit(b / 16);
-    text[at + 1] = digit(b % 16);
+    let i = b as usize * 2;
+    let high = pairs[i];
+    let low = pairs[i + 1];
+    text[at] = high;
+    text[at + 1] = low;
     at + 2
 }
 
@@ -70,30 +92,33 @@ fn byte_of(x: usize, unit: usize) -> usize
     x / unit % BYTE_VALUES
 }
 
-fn put_byte_of(text: &mut [u8], at: usize, x: usize, unit: usize) -> usize
+fn put_byte_of(text: &mut [u8], at: usize, pairs: &[u8; 512], x: usize, unit: usize) -> usize
+    requires { ⌜ Pairs byteValues (now pairs) ⌝ }
     requires { ⌜ (0 < unit) × (at + 2 ≤ length (now text)) ⌝ }
     ensures { λ r. ⌜ Put at 2 (byteDigits (byteOf x unit)) (now (text .entry)) (now (text .exit)) r ⌝ }
 {
-    put_byte(text, at, byte_of(x, unit) as u8)
+    put_byte(text, at, pairs, byte_of(x, unit) as u8)
 }
 
-fn put_short(text: &mut [u8], at: usize, x: usize) -> usize
+fn put_short(text: &mut [u8], at: usize, pairs: &[u8; 512], x: usize) -> usize
+    requires { ⌜ Pairs byteValues (now pairs) ⌝ }
     requires { ⌜ at + 4 ≤ length (now text) ⌝ }
     ensures { λ r. ⌜ Put at 4 (digits (shortBytes x)) (now (text .entry)) (now (text .exit)) r ⌝ }
 {
-    let a = put_byte_of(text, at, x, BYTE_VALUES);
-    put_byte_of(text, a, x, 1)
+    let a = put_byte_of(text, at, pairs, x, BYTE_VALUES);
+    put_byte_of(text, a, pairs, x, 1)
 }
 
-fn put_number(text: &mut [u8], at: usize, x: u32) -> usize
+fn put_number(text: &mut [u8], at: usize, pairs: &[u8; 512], x: u32) -> usize
+    requires { ⌜ Pairs byteValues (now pairs) ⌝ }
     requires { ⌜ at + 8 ≤ length (now text) ⌝ }
     ensures { λ r. ⌜ Put at 8 (numberDigits x) (now (text .entry)) (now (text .exit)) r ⌝ }
 {
     let w = wide(x);
-    let a = put_byte_of(text, at, w, 16777216);
-    let b = put_byte_of(text, a, w, 65536);
-    let c = put_byte_of(text, b, w, BYTE_VALUES);
-    put_byte_of(text, c, w, 1)
+    let a = put_byte_of(text, at, pairs, w, 16777216);
+    let b = put_byte_of(text, a, pairs, w, 65536);
+    let c = put_byte_of(text, b, pairs, w, BYTE_VALUES);
+    put_byte_of(text, c, pairs, w, 1)
 }
 
 // ---- the last byte
@@ -119,49 +144,76 @@ fn balance(sum: usize) -> usize
 }
 
 // The last byte of a frame whose bytes before it have the sum, and the line feed.
-fn put_end(text: &mut [u8], at: usize, sum: usize) -> usize
+fn put_end(text: &mut [u8], at: usize, pairs: &[u8; 512], sum: usize) -> usize
+    requires { ⌜ Pairs byteValues (now pairs) ⌝ }
     requires { ⌜ at + 3 ≤ length (now text) ⌝ }
     ensures { λ r. ⌜ Put at 3 (byteDigits (balance sum) ++ lineEnd) (now (text .entry)) (now (text .exit)) r ⌝ }
 {
-    let a = put_byte(text, at, balance(sum) as u8);
+    let a = put_byte(text, at, pairs, balance(sum) as u8);
     put_bytes(text, a, b"\n")
 }
 
 // ---- lines
 
 // The head line, from the front of the text on; vertex and hyperedge are the next numbers.
-fn put_head(text: &mut [u8], vertex: u32, hyperedge: u32, n: usize, m: usize) -> usize
+fn put_head(
+    text: &mut [u8],
+    pairs: &[u8; 512],
+    vertex: u32,
+    hyperedge: u32,
+    n: usize,
+    m: usize,
+) -> usize
+    requires { ⌜ Pairs byteValues (now pairs) ⌝ }
     requires { ⌜ headLength ≤ length (now text) ⌝ }
     ensures { λ r. ⌜ Put 0 headLength (line (headFrame vertex hyperedge n m)) (now (text .entry)) (now (text .exit)) r ⌝ }
 {
     let a = put_bytes(text, 0, b"484731");
-    let b = put_number(text, a, vertex);
-    let c = put_number(text, b, hyperedge);
-    let d = put_short(text, c, n);
-    let e = put_short(text, d, m);
+    let b = put_number(text, a, pairs, vertex);
+    let c = put_number(text, b, pairs, hyperedge);
+    let d = put_short(text, c, pairs, n);
+    let e = put_short(text, d, pairs, m);
     let numbers = number_sum(vertex) + number_sum(hyperedge);
     let counts = short_sum(n) + short_sum(m);
-    put_end(text, e, 0x48 + 0x47 + 0x31 + numbers + counts)
+    put_end(text, e, pairs, 0x48 + 0x47 + 0x31 + numbers + counts)
 }
 
-fn put_vertex(text: &mut [u8], at: usize, number: u32, weight: u32) -> usize
+// What the line of a vertex and that of a hyperedge begin with: the kind, the number, the weight.
+fn put_record(
+    text: &mut [u8],
+    at: usize,
+    pairs: &[u8; 512],
+    kind: u8,
+    number: u32,
+    weight: u32,
+) -> usize
+    requires { ⌜ Pairs byteValues (now pairs) ⌝ }
+    requires { ⌜ at + 18 ≤ length (now text) ⌝ }
+    ensures { λ r. ⌜ Put at 18 (byteDigits kind ++ (numberDigits number ++ numberDigits weight)) (now (text .entry)) (now (text .exit)) r ⌝ }
+{
+    let a = put_byte(text, at, pairs, kind);
+    let b = put_number(text, a, pairs, number);
+    put_number(text, b, pairs, weight)
+}
+
+fn put_vertex(text: &mut [u8], at: usize, pairs: &[u8; 512], number: u32, weight: u32) -> usize
+    requires { ⌜ Pairs byteValues (now pairs) ⌝ }
     requires { ⌜ at + vertexLength ≤ length (now text) ⌝ }
     ensures { λ r. ⌜ Put at vertexLength (vertexLine (vertexOf number weight)) (now (text .entry)) (now (text .exit)) r ⌝ }
 {
-    let a = put_byte(text, at, 1);
-    let b = put_number(text, a, number);
-    let c = put_number(text, b, weight);
-    put_end(text, c, 1 + number_sum(number) + number_sum(weight))
+    let a = put_record(text, at, pairs, 1, number, weight);
+    put_end(text, a, pairs, 1 + number_sum(number) + number_sum(weight))
 }
 
-fn put_members(text: &mut [u8], at: usize, members: &[u32]) -> usize
+fn put_members(text: &mut [u8], at: usize, pairs: &[u8; 512], members: &[u32]) -> usize
+    requires { ⌜ Pairs byteValues (now pairs) ⌝ }
     requires { ⌜ at + length (now members) * memberLength ≤ length (now text) ⌝ }
     ensures { λ r. ⌜ Put at (length (now (members .entry)) * memberLength) (flat numberDigits (now (members .entry))) (now (text .entry)) (now (text .exit)) r ⌝ }
 {
     let mut next = at;
     let mut i = 0;
     while i < members.len() {
-        next = put_number(text, next, members[i]);
+        next = put_number(text, next, pairs, members[i]);
         i += 1;
     }
     next
@@ -180,23 +232,38 @@ fn members_sum(members: &[u32]) -> usize
     sum
 }
 
-fn put_hyperedge(text: &mut [u8], at: usize, number: u32, weight: u32, members: &[u32]) -> usize
+// The sum of the bytes of a hyperedge's frame before its last.
+fn hyperedge_sum(number: u32, weight: u32, members: &[u32]) -> usize
+    requires { ⌜ length (now members) ≤ limit ⌝ }
+    ensures { λ r. ⌜ r ≡ byteSum (hyperedgeFrame (hyperedgeOf number weight (now (members .entry)))) ⌝ }
+{
+    let numbers = number_sum(number) + number_sum(weight);
+    2 + numbers + members.len() + members_sum(members)
+}
+
+fn put_hyperedge(
+    text: &mut [u8],
+    at: usize,
+    pairs: &[u8; 512],
+    number: u32,
+    weight: u32,
+    members: &[u32],
+) -> usize
+    requires { ⌜ Pairs byteValues (now pairs) ⌝ }
     requires { ⌜ length (now members) ≤ limit ⌝ }
     requires { ⌜ at + hyperedgeLength (length (now members)) ≤ length (now text) ⌝ }
     ensures { λ r. ⌜ Put at (hyperedgeLength (length (now (members .entry)))) (hyperedgeLine (hyperedgeOf number weight (now (members .entry)))) (now (text .entry)) (now (text .exit)) r ⌝ }
 {
-    let a = put_byte(text, at, 2);
-    let b = put_number(text, a, number);
-    let c = put_number(text, b, weight);
-    let d = put_byte(text, c, members.len() as u8);
-    let e = put_members(text, d, members);
-    let numbers = number_sum(number) + number_sum(weight);
-    put_end(text, e, 2 + numbers + members.len() + members_sum(members))
+    let a = put_record(text, at, pairs, 2, number, weight);
+    let b = put_byte(text, a, pairs, members.len() as u8);
+    let c = put_members(text, b, pairs, members);
+    put_end(text, c, pairs, hyperedge_sum(number, weight, members))
 }
 
 // ---- the text
 
-fn put_vertex_at(text: &mut [u8], at: usize, t: &[u32], i: usize) -> usize
+fn put_vertex_at(text: &mut [u8], at: usize, pairs: &[u8; 512], t: &[u32], i: usize) -> usize
+    requires { ⌜ Pairs byteValues (now pairs) ⌝ }
     requires { ⌜ (length (now t) ≡ size limit) × (i < vertexLimit) ⌝ }
     requires { ⌜ at + vertexLength ≤ length (now text) ⌝ }
     ensures { λ r. ⌜ Put at vertexLength (vertexLine (vertexAt (now (t .entry)) i)) (now (text .entry)) (now (text .exit)) r ⌝ }
@@ -204,12 +271,14 @@ fn put_vertex_at(text: &mut [u8], at: usize, t: &[u32], i: usize) -> usize
     put_vertex(
         text,
         at,
+        pairs,
         layout::vertex_number(t, i),
         layout::vertex_weight(t, i),
     )
 }
 
-fn put_vertices(text: &mut [u8], at: usize, t: &[u32], n: usize) -> usize
+fn put_vertices(text: &mut [u8], at: usize, pairs: &[u8; 512], t: &[u32], n: usize) -> usize
+    requires { ⌜ Pairs byteValues (now pairs) ⌝ }
     requires { ⌜ (length (now t) ≡ size limit) × (n ≤ vertexLimit) ⌝ }
     requires { ⌜ at + n * vertexLength ≤ length (now text) ⌝ }
     ensures { λ r. ⌜ Put at (n * vertexLength) (flat vertexLine (tab (vertexAt (now (t .entry))) n)) (now (text .entry)) (now (text .exit)) r ⌝ }
@@ -217,13 +286,14 @@ fn put_vertices(text: &mut [u8], at: usize, t: &[u32], n: usize) -> usize
     let mut next = at;
     let mut i = 0;
     while i < n {
-        next = put_vertex_at(text, next, t, i);
+        next = put_vertex_at(text, next, pairs, t, i);
         i += 1;
     }
     next
 }
 
-fn put_hyperedge_at(text: &mut [u8], at: usize, t: &[u32], j: usize) -> usize
+fn put_hyperedge_at(text: &mut [u8], at: usize, pairs: &[u8; 512], t: &[u32], j: usize) -> usize
+    requires { ⌜ Pairs byteValues (now pairs) ⌝ }
     requires { ⌜ Formed limit (now t) ⌝ }
     requires { ⌜ j < hyperedgeCount (now t) ⌝ }
     requires { ⌜ at + hyperedgeLength (length (membersAt limit (now t) j)) ≤ length (now text) ⌝ }
@@ -233,13 +303,15 @@ fn put_hyperedge_at(text: &mut [u8], at: usize, t: &[u32], j: usize) -> usize
     put_hyperedge(
         text,
         at,
+        pairs,
         layout::hyperedge_number(t, j),
         layout::hyperedge_weight(t, j),
         members,
     )
 }
 
-fn put_hyperedges(text: &mut [u8], at: usize, t: &[u32], m: usize) -> usize
+fn put_hyperedges(text: &mut [u8], at: usize, pairs: &[u8; 512], t: &[u32], m: usize) -> usize
+    requires { ⌜ Pairs byteValues (now pairs) ⌝ }
     requires { ⌜ Formed limit (now t) ⌝ }
     requires { ⌜ m ≡ hyperedgeCount (now t) ⌝ }
     requires { ⌜ at + length (flat hyperedgeLine (tab (hyperedgeAt limit (now t)) m)) ≤ length (now text) ⌝ }
@@ -248,7 +320,7 @@ fn put_hyperedges(text: &mut [u8], at: usize, t: &[u32], m: usize) -> usize
     let mut next = at;
     let mut j = 0;
     while j < m {
-        next = put_hyperedge_at(text, next, t, j);
+        next = put_hyperedge_at(text, next, pairs, t, j);
         j += 1;
     }
     next
@@ -293,15 +365,17 @@ fn put_text(text: &mut [u8], t: &[u32]) -> usize
 {
     let n = layout::vertex_count(t);
     let m = layout::hyperedge_count(t);
+    let pairs = byte_pairs();
     let a = put_head(
         text,
+        &pairs,
         layout::next_vertex(t),
         layout::next_hyperedge(t),
         n,
         m,
     );
-    let b = put_vertices(text, a, t, n);
-    put_hyperedges(text, b, t, m)
+    let b = put_vertices(text, a, &pairs, t, n);
+    put_hyperedges(text, b, &pairs, t, m)
 }
 
 fn write_formed(t: &[u32], text: &mut [u8]) -> Answer

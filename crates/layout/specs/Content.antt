@@ -70,3 +70,8 @@ positionFrom i x (y ∷ ys) = cond (eqb x y) (At i) (positionFrom (suc i) x ys)
 
 unfoldable pub position : ℕ → List ℕ → Found
 position x xs = positionFrom zero x xs
+
+-- the place that a search found
+abbrev pub place : Found → ℕ
+place (At i) = i
+place Nothing = 0

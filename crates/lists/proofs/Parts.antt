@@ -1,14 +1,13 @@
 -- Laws of parts of a slice, as lists. Assumes nothing.
-use mathlib.Core.Path.{_≡_, sym, ap, _∙_}
+use mathlib.Core.Path.{_≡_, sym, _∙_}
 use mathlib.Core.List.{List, _++_, append-nil}
 use Prim.Native.Nat.{ℕ, _+_, _-_, _≤_, _<_}
-use native.Mathlib.Nat.{le-of-eq, add-sub-cancel-left, add-assoc}
+use native.Mathlib.Nat.{le-of-eq, add-sub-cancel-left}
 use native.Mathlib.Omega.{arith}
-use lib.ListN.{length, getD, take, drop, replicate, length-drop, length-append, length-replicate, List·getD-append, drop-of-length-le}
-use Rattle.lists.proofs.Flat.{zero-end}
-use Rattle.lists.specs.Lists.{tab, shifted}
+use lib.ListN.{length, getD, take, drop, length-drop, drop-of-length-le}
+use Rattle.lists.specs.Lists.{tab}
 use Rattle.lists.proofs.Tab.{length-tab, getD-tab}
-use lib.Seq.{take-all, length-take-le, ext-getD, getD-take, getD-drop, getD-append-add}
+use lib.Seq.{take-all, length-take-le, ext-getD, getD-take, getD-drop}
 
 -- `&s[a..]`
 pub part-tail : {A : Type 0} (a : ℕ) (l : List A) → take (length l - a) (drop a l) ≡ drop a l
@@ -38,32 +37,6 @@ part-words k a ws h =
     ext-getD 0 (tab (λ i. getD ws (a + i) 0) k) (take k (drop a ws)) (length-tab _ k ∙ sym n) (λ i l.
     let l′ : i < k = rw length-tab at l in
     getD-tab (λ (i : ℕ). getD ws (a + i) 0) k i 0 l′ ∙ sym (part-at ws a k i l′))
-
--- a part of a part
-pub part-part : (ws : List ℕ) (a k r c : ℕ) → r + c ≤ k → a + k ≤ length ws → take c (drop r (take k (drop a ws))) ≡ take c (drop (a + r) ws)
-part-part ws a k r c h l =
-    part-ext (take k (drop a ws)) ws r (a + r) c (rw (length-take-le k (drop a ws) (rw length-drop (omega arith))) h) (omega arith)
-    (λ i m. part-at ws a k (r + i) (omega arith) ∙ ap (λ (p : ℕ). getD ws p 0) (sym (add-assoc a r i)))
-
-module _ (ws : List ℕ) (a k : ℕ) (h : a + k ≤ length ws) where
-  pub length-shifted : length (shifted ws a k) ≡ length ws
-  unfolding shifted
-  length-shifted = simp (length-append, length-drop, length-replicate) (omega (arith, length-take-le a ws (omega arith)))
-
-  pub shifted-before : (p : ℕ) → p < a → getD (shifted ws a k) p 0 ≡ getD ws p 0
-  unfolding shifted
-  shifted-before p l =
-      let e : length (take a ws) ≡ a = length-take-le a ws (omega arith) in
-      List·getD-append (take a ws) _ 0 p (omega arith) ∙ getD-take a ws p 0 l
-
-  pub shifted-after : (p : ℕ) → a ≤ p → getD (shifted ws a k) p 0 ≡ getD ws (p + k) 0
-  unfolding shifted
-  shifted-after p l =
-      let e : length (take a ws) ≡ a = length-take-le a ws (omega arith) in
-      let q : length (take a ws) + (p - a) ≡ p = omega arith in
-      let r : a + k + (p - a) ≡ p + k = omega arith in
-      ap (λ (i : ℕ). getD (take a ws ++ (drop (a + k) ws ++ replicate k 0)) i 0) (sym q) ∙ getD-append-add (take a ws) _ (p - a) 0
-      ∙ zero-end (drop (a + k) ws) k (p - a) ∙ getD-drop (a + k) ws (p - a) 0 ∙ ap (λ (i : ℕ). getD ws i 0) r
 
 -- `&mut s[a..]`, come back with ys in it
 pub back-tail : {A : Type 0} (a : ℕ) (xs ys : List A) → take a xs ++ (ys ++ drop (length xs - a) (drop a xs)) ≡ take a xs ++ ys

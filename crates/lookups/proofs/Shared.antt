@@ -25,7 +25,7 @@ use Rattle.layout.specs.Answers.{Result, result, firstMissing, hyperedgeMissing
 use Rattle.layout.proofs.Answers.{on-first-missing, on-none-missing}
 use Rattle.layout.proofs.Position.{missing-dead}
 use Rattle.layout.proofs.Read.{live-length, hyperedge-found}
-use Rattle.marks.specs.Marks.{isMarked, marked}
+use Rattle.marks.specs.Marks.{isMarked}
 use Rattle.lookups.specs.Lookups.{isMemberOf, hasMember, shared}
 use Rattle.lookups.specs.State.{someOf, with, noMarks, MarkedBy, KeptBy, Both}
 use Rattle.lookups.specs.Results.{onSeveral, intersectionsResult}

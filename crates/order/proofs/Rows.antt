@@ -7,7 +7,7 @@ use native.Mathlib.Nat.{not-suc-le-zero}
 use native.Mathlib.Omega.{arith}
 use lib.ListN.{length, getD, set, length-set}
 use lib.Seq.{getD-set-same, getD-set-other}
-use Rattle.lists.specs.Tests.{count, bit}
+use Rattle.lists.specs.Tests.{bit}
 use Rattle.lists.proofs.Cases.{on-same}
 use Rattle.lists.proofs.Count.{count-le}
 use Rattle.order.specs.State.{Degrees, Row, Part, Owed}

@@ -1,6 +1,6 @@
 -- Laws of the matrix that has a value for each pair of records, and of the weights by place. Assumes nothing.
 use mathlib.Core.Path.{_≡_, refl, sym, ap, _∙_, subst}
-use mathlib.Core.Bool.{Bool, false, cond}
+use mathlib.Core.Bool.{Bool, false, not, cond}
 use mathlib.Core.List.{List}
 use Prim.Native.Nat.{ℕ, zero, suc, _+_, _*_, _≤_, _<_}
 use native.Mathlib.Nat.{lt-irrefl, not-suc-le-zero, le-antisymm}
@@ -10,12 +10,13 @@ use lib.ListN.{getD, set, length-set, replicate, length-replicate, getD-replicat
 use lib.Seq.{getD-set-same, getD-set-other, set-getD}
 use borrow.Author.Tests.{eq-eqb, ne-eqb, lt-ltb, ltb-true, le-ltb}
 use Rattle.lists.specs.Tests.{_and_}
-use Rattle.lists.proofs.Cases.{on, on-same, on-below, and-both, and-false-left, and-false-right}
+use Rattle.lists.proofs.Cases.{on, on-same, on-below, clash, and-both, and-false-left, and-false-right}
 use Rattle.lists.proofs.Tab.{length-tab, getD-tab}
 use Rattle.layout.specs.Content.{Hyperedge, Table}
 use Rattle.layout.specs.Layout.{limit, vertexLimit, hyperedgeCount, hyperedgeAt, readHyperedges, read}
 use Rattle.layout.specs.WellFormed.{Formed}
 use Rattle.steps.specs.Matrices.{cell}
+use Rattle.distance.specs.Cost.{Within}
 use Rattle.paths.specs.Paths.{noHyperedge, weightBy, lighter}
 use Rattle.paths.specs.Choices.{Weights, weightIn, Values}
 
@@ -49,6 +50,13 @@ module _ {f : ℕ → ℕ → ℕ} {n : ℕ} {c : List ℕ} (w : Values f n c) (
   value-at i j li lj =
       w .entry i j (omega arith) (omega arith)
       ∙ ap (λ (b : Bool). cond b (f i j) 0) (and-both (ltb i n) (ltb j n) (lt-ltb i n li) (lt-ltb j n lj))
+
+  -- no value but among the records below n: k is what `vertex_count` found
+  pub values-within : (k : ℕ) → k ≡ n → Within k c
+  values-within k e u v lu lv t =
+      on-below v n
+      (λ l. omega (arith, e))
+      (λ l. clash t (ap (λ (x : ℕ). not (eqb x 0)) (w .entry u v (omega (arith, e)) lv ∙ ap (λ (b : Bool). cond b (f u v) 0) (and-false-right (ltb u n) (ltb v n) (le-ltb v n l)))))
 
   -- one value anew
   pub values-set : {g : ℕ → ℕ → ℕ} (a b : ℕ) (h : ℕ → ℕ) → a < n → b < n

@@ -99,11 +99,13 @@ pub fn list_costs(t: &[u32], i: usize, out: &mut [u32]) -> Answer
     let mut w = [0u32; 256];
     choices::weights(t, &mut w);
     let mut c = [0u8; 65536];
-    choices::choices(false, t, &w, &mut c);
+    let mut lists = [0u8; 65536];
+    let mut counts = [0u32; 256];
+    choices::choices(false, t, &w, &mut c, &mut lists, &mut counts);
     let n = layout::vertex_count(t);
     let mut m = [0u8; 256];
     let mut d = [0u64; 256];
-    distance::dijkstra(&c, &w, n, i, &mut m, &mut d);
+    distance::dijkstra(&c, &w, &lists, &counts, n, i, &mut m, &mut d);
     let needed = count_reached(n, &m) * 3;
     if out.len() < needed {
         return Answer::NoRoom(needed);

@@ -114,9 +114,12 @@ pub fn list_pair(t: &[u32], i: usize, j: usize, out: &mut [u32]) -> Answer
     let mut w = [0u32; 256];
     choices::weights(t, &mut w);
     let mut c = [0u8; 65536];
-    choices::choices(true, t, &w, &mut c);
+    let mut lists = [0u8; 65536];
+    let mut counts = [0u32; 256];
+    choices::choices(true, t, &w, &mut c, &mut lists, &mut counts);
     let mut walk = [0u32; 256];
-    let r = distance::best_walk(&c, &w, layout::vertex_count(t), i, j, &mut walk);
+    let n = layout::vertex_count(t);
+    let r = distance::best_walk(&c, &w, &lists, &counts, n, i, j, &mut walk);
     if !r.ok {
         return list_none(out);
     }

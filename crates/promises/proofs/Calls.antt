@@ -1,16 +1,16 @@
 -- For every call: each refusal is given then and only then, by the first of its grounds that applies, and changes no lent word. What is judged
 -- is what the call's promise says that it leaves. Assumes nothing.
 use mathlib.Core.Path.{_≡_, refl}
-use mathlib.Core.Bool.{Bool}
+use mathlib.Core.Bool.{Bool, cond}
 use mathlib.Core.List.{List, [], _∷_, _++_}
 use Prim.Native.Nat.{ℕ}
 use lib.Dec.{eqb}
 use lib.ListN.{length, replicate}
 use Rattle.lists.specs.Tests.{bit}
 use Rattle.lists.specs.Lists.{flat}
-use Rattle.layout.specs.declared.Answer.the-variants.{Done}
+use Rattle.layout.specs.declared.Answer.the-variants.{Done, BadText}
 use Rattle.layout.specs.Content.{Table, liveVertices, liveHyperedges}
-use Rattle.layout.specs.Layout.{vertexLimit, hyperedgeLimit, limit, size, read}
+use Rattle.layout.specs.Layout.{vertexLimit, hyperedgeLimit, limit, size, words, read}
 use Rattle.layout.specs.Answers.{Result, result, onFormed, onLive, listed, vertexMissing, hyperedgeMissing, onLiveVertices}
 use Rattle.edits.specs.Results.{addVertexResult, addHyperedgeResult, updateResult, removeVertexResult, removeHyperedgeResult, clearResult, emptyResult}
 use Rattle.lookups.specs.declared.Relation.{Relation}
@@ -29,7 +29,8 @@ use Rattle.properties.specs.Results.{orphanVerticesResult, orphanHyperedgesResu
 use Rattle.paths.specs.Paths.{pairWords, bestPath, costsFrom, pairResult, fromResult}
 use Rattle.walk.specs.Walk.{walk, walkResult}
 use Rattle.frames.specs.Frames.{frameText, writeResult}
-use Rattle.promises.specs.Refusals.{Judged, content, unformed, unsized, deadVertices, closedWalk, noRoom, addVertexGrounds, addHyperedgeGrounds, updateGrounds, vertexGrounds, hyperedgeGrounds, listingGrounds, intersectionsGrounds, sortGrounds}
+use Rattle.frames.specs.Reading.{contentOf, accepted, faultyLine, readResult}
+use Rattle.promises.specs.Refusals.{Judged, content, unformed, unsized, deadVertices, closedWalk, noRoom, addVertexGrounds, addHyperedgeGrounds, updateGrounds, vertexGrounds, hyperedgeGrounds, listingGrounds, intersectionsGrounds, sortGrounds, badText, readGrounds}
 use Rattle.promises.proofs.Refusals.{none-refused, off-ground, live-judged, some-judged, short-judged, room-judged, number-judged, new-judged, changed-judged, several-judged, formed-judged, listed-judged}
 
 -- ---- edits
@@ -71,6 +72,13 @@ remove-hyperedge-judged x ws =
 pub clear-judged : (ws : List ℕ) → Judged (unsized ws ∷ []) ws (clearResult ws)
 unfolding clearResult
 clear-judged ws = off-ground [] ws (result (Done 0) (replicate (size limit) 0)) (none-refused refl) (unsized ws) (eqb (length ws) (size limit)) refl
+
+pub read-judged : (text ws : List ℕ) → Judged (readGrounds text ws) ws (readResult text ws)
+unfolding readResult
+read-judged text ws =
+    let done = result (Done 0) (words limit (contentOf text)) in
+    let twelve = off-ground [] ws done (none-refused refl) (badText text) (accepted text) refl in
+    off-ground (badText text ∷ []) ws (cond (accepted text) done (result (BadText (faultyLine text)) ws)) twelve (unsized ws) (eqb (length ws) (size limit)) refl
 
 -- ---- queries: what is answered after 1 is a number, or a listing, where the vertices asked are live
 

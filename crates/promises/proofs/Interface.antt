@@ -87,6 +87,8 @@ use Rattle.vaultsorrel.proofs.vs_random_walk.Kinds as vs-random-walk
 use Rattle.vaultsorrel.proofs.vs_random_walk.Reads as vs-random-walk-reads
 use Rattle.vaultsorrel.proofs.vs_write_frames.Kinds as vs-write-frames
 use Rattle.vaultsorrel.proofs.vs_write_frames.Reads as vs-write-frames-reads
+use Rattle.vaultsorrel.proofs.vs_read_frames.Kinds as vs-read-frames
+use Rattle.vaultsorrel.proofs.vs_read_frames.Reads as vs-read-frames-reads
 
 replies-agree : (promised : Result) {a b : Reply} {x y : List ℕ} → replied a x ≡ promised → replied b y ≡ promised → (a ≡ b) × (x ≡ y)
 replies-agree promised p q = (
@@ -229,3 +231,6 @@ vs-random-walk-agrees κs args a b x y p q = replies-agree _ p q
 
 pub vs-write-frames-agrees : Agrees 2 vs-write-frames.ps vs-write-frames.r vs-write-frames-reads.Post (λ _ x. now (x .1 .0))
 vs-write-frames-agrees κs args a b x y p q = replies-agree _ p q
+
+pub vs-read-frames-agrees : Agrees 2 vs-read-frames.ps vs-read-frames.r vs-read-frames-reads.Post (λ _ x. now (x .0))
+vs-read-frames-agrees κs args a b x y p q = replies-agree _ p q

@@ -9,13 +9,14 @@ use lib.ListN.{length}
 use Rattle.lists.specs.Tests.{_and_}
 use Rattle.lists.specs.Lists.{any, sameList}
 use Rattle.layout.specs.declared.Answer.{Answer}
-use Rattle.layout.specs.declared.Answer.the-variants.{NotWellFormed, NoMembers, SameMembers, TooManyMembers, Full, NumbersSpent, ClosedWalk, TooFewHyperedges, NoRoom}
+use Rattle.layout.specs.declared.Answer.the-variants.{NotWellFormed, NoMembers, SameMembers, TooManyMembers, Full, NumbersSpent, ClosedWalk, TooFewHyperedges, NoRoom, BadText}
 use Rattle.layout.specs.Content.{Table, liveVertices, liveHyperedges, isLive}
 use Rattle.layout.specs.Layout.{vertexLimit, hyperedgeLimit, limit, size, read}
 use Rattle.layout.specs.WellFormed.{wellFormed}
 use Rattle.layout.specs.Answers.{Result, result, vertexMissing, hyperedgeMissing}
 use Rattle.edits.specs.Results.{lastNumber, identical, membersOf}
 use Rattle.structural.specs.Sort.{acyclic}
+use Rattle.frames.specs.Reading.{accepted, faultyLine}
 
 -- a ground of refusal: the answer that it gives, and whether it applies
 pub record Ground : Type 0 where
@@ -86,6 +87,10 @@ tooFew es = record { answer = TooFewHyperedges; applies = ltb (length es) 2 }
 abbrev pub noRoom : List ℕ → List ℕ → Ground
 noRoom xs lent = record { answer = NoRoom (length xs); applies = ltb (length lent) (length xs) }
 
+-- 12: frame text bad
+abbrev pub badText : List ℕ → Ground
+badText text = record { answer = BadText (faultyLine text); applies = not (accepted text) }
+
 -- ---- the order for each call; ws are the table's words
 
 abbrev pub content : List ℕ → Table
@@ -134,3 +139,7 @@ intersectionsGrounds es xs lent ws =
 -- the sort 1, 9, 11
 abbrev pub sortGrounds : List ℕ → List ℕ → List ℕ → List Ground
 sortGrounds xs lent ws = unformed ws ∷ closedWalk (content ws) ∷ noRoom xs lent ∷ []
+
+-- reading frames 1, 12
+abbrev pub readGrounds : List ℕ → List ℕ → List Ground
+readGrounds text ws = unsized ws ∷ badText text ∷ []

@@ -9,7 +9,7 @@ use lib.Dec.{eqb}
 use lib.ListN.{length, getD, take, drop, set, length-set, length-drop, getD-replicate}
 use lib.Seq.{getD-set-same, getD-set-other, take-all}
 use borrow.Author.Tests.{ne-eqb}
-use Rattle.lists.specs.Lists.{any, memb, filter, over}
+use Rattle.lists.specs.Lists.{any, memb, filter}
 use Rattle.lists.proofs.Cases.{on-same}
 use Rattle.layout.specs.Content.{Table, liveVertices, lists}
 use Rattle.layout.specs.Layout.{vertexLimit, hyperedgeAt, membersAt, read}

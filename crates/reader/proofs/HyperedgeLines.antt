@@ -5,60 +5,62 @@ use mathlib.Core.List.{List}
 use Prim.Native.Nat.{ℕ, _+_, _*_, _-_, _≤_, _<_}
 use native.Mathlib.Numerals.{add-one}
 use native.Mathlib.Omega.{arith}
-use lib.ListN.{length, getD}
+use lib.ListN.{length, getD, take}
 use borrow.Author.Tests.{not-true, not-false}
 use Rattle.lists.specs.Tests.{_and_, every}
-use Rattle.lists.specs.Lists.{tab, flat}
+use Rattle.lists.specs.Lists.{all, tab, pad, flat}
 use Rattle.lists.proofs.Cases.{on, and-both}
 use Rattle.lists.proofs.Tab.{tab-ext, tab-suc}
 use Rattle.lists.proofs.Flat.{flat-snoc}
-use Rattle.layout.specs.Content.{liveVertices}
+use Rattle.layout.specs.Content.{isLive, liveVertices}
 use Rattle.layout.specs.Layout.{limit, hyperedgeLimit, recordSize, hyperedgesAt, vertexWord, vertexCount, hyperedgeCount, nextHyperedgeIn, hyperedgeWords}
 use Rattle.layout.specs.WellFormed.{vertexColumn}
 use Rattle.frames.specs.Put.{Put}
-use Rattle.frames.specs.Reading.{nextHyperedgeOf, verticesDue, hyperedgesDue, vertexPlace, numberIn, countIn, hyperedgePlace, hyperedgeFrom, hyperedgeIn, hyperedgeNumberIn, hyperedgeGood, contentOf}
+use Rattle.frames.specs.Reading.{nextHyperedgeOf, verticesDue, hyperedgesDue, vertexPlace, byteAt, numberIn, countIn, memberIn, hyperedgePlace, hyperedgeFrom, hyperedgeIn, hyperedgeNumberIn, hyperedgeGood, contentOf}
 use Rattle.frames.proofs.Laws.{put-length, put-append, put-as}
 use Rattle.frames.proofs.Lines.{put-none}
-use Rattle.reader.specs.Lines.{Sealed, lowest}
+use Rattle.reader.specs.Lines.{Sealed, lowest, numberFits}
 use Rattle.reader.specs.Passes.{Live}
 use Rattle.reader.specs.Hyperedges.{hyperedgeFits, VerticesStored, HyperedgeRead, HyperedgesRead}
 use Rattle.reader.proofs.Numbers.{number-good, lowest-next}
 use Rattle.reader.proofs.HeadLine.{hyperedges-few, hyperedges-given}
-use Rattle.reader.proofs.HyperedgeLine.{fits-framed, fits-counted}
+use Rattle.reader.proofs.HyperedgeLine.{fits-framed, fits-counted, fits-rest}
+use Rattle.reader.proofs.Words.{list-front}
 use Rattle.reader.proofs.Pasted.{put-before}
 
 -- ---- one line
 
-module _ (text : List ℕ) (p low high : ℕ) (ws : List ℕ) (r : Bool) (e : r ≡ hyperedgeFits text p low high (vertexColumn ws)) where
-  pub line-unfit : (to : ℕ) → not r ≡ true → HyperedgeRead text p low high to ws ws 0
-  line-unfit to n = record {
-    judged = sym (ap (λ (b : Bool). cond b (countIn text p) 0) (sym e ∙ not-true r n));
-    small = omega arith;
-    kept = λ z. refl;
-    put = λ z. absurd (omega arith);
-  }
+pub line-unfit : (text : List ℕ) (p low high to : ℕ) (ws : List ℕ) → false ≡ hyperedgeFits text p low high (vertexColumn ws) → HyperedgeRead text p low high to ws ws 0
+line-unfit text p low high to ws e = record {
+  judged = sym (ap (λ (b : Bool). cond b (countIn text p) 0) (sym e));
+  small = omega arith;
+  kept = λ z. refl;
+  put = λ z. absurd (omega arith);
+}
 
-  module _ (n : not r ≡ false) where
-    fit : hyperedgeFits text p low high (vertexColumn ws) ≡ true
-    fit = sym e ∙ not-false r n
+pub line-stored : (text : List ℕ) (p low high : ℕ) (ws : List ℕ) {to k q : ℕ} {later : List ℕ} → true ≡ hyperedgeFits text p low high (vertexColumn ws) → k ≡ countIn text p
+    → Put to (recordSize limit) (hyperedgeWords limit (hyperedgeFrom text p)) ws later q → HyperedgeRead text p low high to ws later k
+line-stored text p low high ws e f g = record {
+  judged = f ∙ sym (ap (λ (b : Bool). cond b (countIn text p) 0) (sym e));
+  small = rw f (fits-counted text p low high (vertexColumn ws) (sym e) .1);
+  kept = λ z. absurd (omega (arith, fits-counted text p low high (vertexColumn ws) (sym e) .0));
+  put = λ z. rw (← g .reached) g;
+}
 
-    pub line-framed : p ≤ length text → (k : ℕ) → k ≡ countIn text p → Sealed text p (11 + k * 4)
-    line-framed h k q = rw q (fits-framed text p low high (vertexColumn ws) h fit)
+-- the line is a frame of k members, which are the list, with 0 behind them; t is what the code found of those
+module _ (text : List ℕ) (p low high : ℕ) (ws : List ℕ) (k : ℕ) (list : List ℕ) (b x : ℕ) (r t : Bool)
+    (s : Sealed text p (11 + k * 4)) (e : k ≡ countIn text p) (some : 0 < k) (few : k ≤ limit) (l : list ≡ pad limit (tab (memberIn text p) k))
+    (eb : b ≡ byteAt text p) (two : b ≡ 2) (ex : x ≡ numberIn text p) (er : r ≡ numberFits x low high) (nr : not r ≡ false)
+    (et : t ≡ all (isLive (vertexColumn ws)) (take k list)) where
+  listed : t ≡ hyperedgeFits text p low high (vertexColumn ws)
+  listed = fits-rest text p low high (vertexColumn ws) k e s b x r t some few eb two ex er nr (et ∙ ap (all (isLive (vertexColumn ws))) (list-front (memberIn text p) k list l few))
 
-    pub line-few : (k : ℕ) → k ≡ countIn text p → k ≤ limit
-    line-few k q = rw q (fits-counted text p low high (vertexColumn ws) fit .1)
+  pub line-dead : (to : ℕ) → not t ≡ true → HyperedgeRead text p low high to ws ws 0
+  line-dead to n = line-unfit text p low high to ws (sym (not-true t n) ∙ listed)
 
-    pub line-count-room : p ≤ length text → p + 18 + 2 ≤ length text
-    line-count-room h = omega (arith, fits-framed text p low high (vertexColumn ws) h fit .room)
-
-    pub line-stored : {later : List ℕ} {to k q : ℕ} → k ≡ countIn text p → Put to (recordSize limit) (hyperedgeWords limit (hyperedgeFrom text p)) ws later q
-        → HyperedgeRead text p low high to ws later k
-    line-stored {k = k} f g = record {
-      judged = f ∙ sym (ap (λ (b : Bool). cond b (countIn text p) 0) fit);
-      small = rw f (fits-counted text p low high (vertexColumn ws) fit .1);
-      kept = λ z. absurd (omega (arith, fits-counted text p low high (vertexColumn ws) fit .0));
-      put = λ z. rw (← g .reached) g;
-    }
+  pub line-live : {to q : ℕ} {later : List ℕ} → not t ≡ false → Put to (recordSize limit) (hyperedgeWords limit (hyperedgeFrom text p)) ws later q
+      → HyperedgeRead text p low high to ws later k
+  line-live n f = line-stored text p low high ws (sym (not-false t n) ∙ listed) e f
 
 -- what is known of a line that was read
 module _ {text : List ℕ} {p low high to : ℕ} {ws later : List ℕ} {k : ℕ} (h : HyperedgeRead text p low high to ws later k) where

@@ -1,19 +1,15 @@
 -- Which members are live, from what the code found in the words. Assumes nothing.
-use mathlib.Core.Path.{_≡_, refl, sym, ap, _∙_}
+use mathlib.Core.Path.{_≡_, sym, ap, _∙_}
 use mathlib.Core.Bool.{Bool, true, false, not}
 use mathlib.Core.List.{List}
 use Prim.Native.Nat.{ℕ, _+_, _*_, _≤_, _<_}
-use native.Mathlib.Nat.{le-antisymm}
-use native.Mathlib.Numerals.{add-one}
 use native.Mathlib.Omega.{arith}
 use lib.Dec.{ltb}
-use lib.ListN.{length, getD}
-use borrow.Author.Tests.{not-true, not-false}
-use Rattle.lists.specs.Lists.{all, memb, tab, Ascending}
-use Rattle.lists.proofs.Cases.{on, clash, and-both}
-use Rattle.lists.proofs.All.{all-at, all-snoc}
+use lib.ListN.{length, getD, drop}
+use Rattle.lists.specs.Lists.{all, memb, Ascending}
+use Rattle.lists.proofs.All.{all-on, all-no, all-end}
 use Rattle.lists.proofs.Memb.{memb-getD}
-use Rattle.lists.proofs.Tab.{length-tab, getD-tab, tab-suc}
+use Rattle.lists.proofs.Tab.{length-tab, getD-tab}
 use Rattle.layout.specs.declared.Found.{Found}
 use Rattle.layout.specs.declared.Found.the-variants.{At, Nothing}
 use Rattle.layout.specs.Content.{position, isLive}
@@ -48,21 +44,15 @@ module _ (ws : List ℕ) (n : ℕ) (l : Live ws) (e : n ≡ vertexCount ws) wher
     pub live-missing : p ≡ Nothing → false ≡ isLive (vertexColumn ws) x
     live-missing h = sym (missing-dead x (vertexColumn ws) (ap (λ (k : ℕ). position x (column ws verticesAt vertexSize k)) (sym e) ∙ sym q ∙ h))
 
--- ---- members: i of k are live
+-- ---- a list's members, one after the other: x is the one at i, and r what the code found of it
 
-module _ (f : ℕ → Bool) (g : ℕ → ℕ) where
-  pub members-none : all f (tab g 0) ≡ true
-  unfolding all tab
-  members-none = refl
+module _ (f : ℕ → Bool) (xs : List ℕ) (i : ℕ) (inv : all f (drop i xs) ≡ all f xs) where
+  module _ (x : ℕ) (r : Bool) (e : x ≡ getD xs i 0) (q : r ≡ f x) (h : i < length xs) where
+    pub list-on : not r ≡ false → all f (drop (i + 1) xs) ≡ all f xs
+    list-on n = all-on f xs i (all f xs) inv 0 r (q ∙ ap f e) h n
 
-  pub members-on : (i x : ℕ) (r : Bool) → all f (tab g i) ≡ true → x ≡ g i → r ≡ f x → not r ≡ false → all f (tab g (i + 1)) ≡ true
-  members-on i x r a e q n =
-      ap (all f) (ap (tab g) (add-one i) ∙ tab-suc g i) ∙ all-snoc f (tab g i) (g i) ∙ and-both _ _ a (ap f (sym e) ∙ sym q ∙ not-false r n)
+    pub list-no : not r ≡ true → false ≡ all f xs
+    list-no n = all-no f xs i (all f xs) inv 0 r (q ∙ ap f e) h n
 
-  pub members-no : (i k x : ℕ) (r : Bool) → i < k → x ≡ g i → r ≡ f x → not r ≡ true → false ≡ all f (tab g k)
-  members-no i k x r h e q n = on (all f (tab g k))
-      (λ a. clash (ap f (sym (getD-tab g k i 0 h)) ∙ all-at f (tab g k) i 0 a (rw length-tab h)) (ap f (sym e) ∙ sym q ∙ not-true r n))
-      (λ a. sym a)
-
-  pub members-end : (i k : ℕ) → i ≤ k → k ≤ i → all f (tab g i) ≡ true → true ≡ all f (tab g k)
-  members-end i k h l a = sym (ap (λ (n : ℕ). all f (tab g n)) (sym (le-antisymm h l)) ∙ a)
+  pub list-end : length xs ≤ i → true ≡ all f xs
+  list-end h = all-end f xs i (all f xs) inv h

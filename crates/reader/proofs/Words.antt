@@ -1,19 +1,20 @@
 -- Words stored one after the other. Assumes nothing.
 use mathlib.Core.Path.{_≡_, refl, sym, ap, _∙_}
 use mathlib.Core.List.{List, [], _∷_, _++_}
-use Prim.Native.Nat.{ℕ, _+_, _-_, _*_, _≤_, _<_}
+use Prim.Native.Nat.{ℕ, zero, suc, _+_, _-_, _*_, _≤_, _<_}
 use native.Mathlib.Nat.{le-antisymm}
 use native.Mathlib.Numerals.{add-one}
 use native.Mathlib.Omega.{arith}
-use lib.ListN.{length, set, take, drop, replicate, replicate-append-replicate}
-use lib.Seq.{set-split}
-use Rattle.lists.specs.Lists.{tab, pad}
+use lib.ListN.{length, set, take, drop, replicate}
+use lib.Seq.{set-split, take-at}
+use Rattle.lists.specs.Lists.{tab, pad, over}
+use Rattle.lists.proofs.Flat.{length-pad}
 use Rattle.lists.proofs.Tab.{tab-suc, length-tab}
 use Rattle.layout.specs.Layout.{limit, recordSize, vertexWords, hyperedgeWords}
 use Rattle.frames.specs.Frames.{vertexOf}
 use Rattle.frames.specs.Reading.{numberAt, numberIn, weightIn, countIn, memberIn, hyperedgeFrom}
 use Rattle.frames.specs.Put.{pasted, Put}
-use Rattle.frames.proofs.Laws.{put-length, put-append, put-as}
+use Rattle.frames.proofs.Laws.{put-length, put-append, put-as, put-over}
 use Rattle.frames.proofs.Lines.{put-none}
 use Rattle.reader.specs.Lines.{Sealed}
 use Rattle.reader.proofs.Frame.{number-word-at}
@@ -21,16 +22,6 @@ use Rattle.reader.proofs.Frame.{number-word-at}
 pub word-put : (to x : ℕ) (ws : List ℕ) → to < length ws → Put to 1 (x ∷ []) ws (set ws to x) (to + 1)
 unfolding pasted
 word-put to x ws h = record { sized = refl; fits = omega arith; reached = refl; wrote = set-split ws to x h ∙ ap (λ (n : ℕ). take to ws ++ (x ∷ drop n ws)) (sym (add-one to)) }
-
--- k words of 0: i of them
-pub zeros-none : (to : ℕ) (ws : List ℕ) → to ≤ length ws → Put to 0 (replicate 0 0) ws ws to
-zeros-none to ws h = put-none to ws h
-
-pub zeros-more : {to i p q : ℕ} {a b c : List ℕ} → Put to i (replicate i 0) a b p → Put p 1 (0 ∷ []) b c q → Put to (i + 1) (replicate (i + 1) 0) a c q
-zeros-more {i = i} f g = put-as refl (replicate-append-replicate {A = ℕ} i 1 0) (put-append f g)
-
-pub zeros-end : {to i k p : ℕ} {a b : List ℕ} → i ≤ k → k ≤ i → Put to i (replicate i 0) a b p → Put to k (replicate k 0) a b p
-zeros-end h l f = rw (← le-antisymm h l) f
 
 -- k numbers by place: i of them
 module _ (f : ℕ → ℕ) where
@@ -77,12 +68,37 @@ module _ (text : List ℕ) (p x w : ℕ) (ex : x ≡ numberIn text p) (ew : w �
       (rw (ex, ew, ek, length-tab (memberIn text p) (countIn text p)))
       (put-append f (put-append g h))
 
-pub list-words-put : (f : ℕ → ℕ) {to a b c k : ℕ} {q r s t : List ℕ} → k ≤ limit
-    → Put to 1 (k ∷ []) q r a → Put a k (tab f k) r s b → Put b (limit - k) (replicate {A = ℕ} (limit - k) 0) s t c
-    → Put to (1 + limit) (k ∷ pad limit (tab f k)) q t c
-list-words-put f {k = k} le g h i =
-    put-as (omega arith) (rw (length-tab f k)) (put-append g (put-append h i))
+-- ---- a record of a list that was made first
 
--- behind the number and the weight there is room for the list
-pub list-room : {to a b : ℕ} {xs ys q r s : List ℕ} → to + recordSize limit ≤ length q → Put to 1 xs q r a → Put a 1 ys r s b → b + (1 + limit) ≤ length s
-list-room h f g = omega (arith, f .reached, g .reached, put-length f, put-length g)
+drop-zeros : (k n : ℕ) → k ≤ n → drop k (replicate {A = ℕ} n 0) ≡ replicate (n - k) 0
+drop-zeros zero n h = let e : n ≡ n - 0 = omega arith in ap (λ (j : ℕ). replicate {A = ℕ} j 0) e
+drop-zeros (suc k) zero h = absurd (omega arith)
+drop-zeros (suc k) (suc n) h =
+    let e : suc n - suc k ≡ n - k = omega arith in
+    drop-zeros k n (omega arith) ∙ ap (λ (j : ℕ). replicate {A = ℕ} j 0) (sym e)
+
+pub list-made : {xs after : List ℕ} {k q : ℕ} → k ≤ limit → Put 0 k xs (replicate limit 0) after q → after ≡ pad limit xs
+unfolding over
+list-made {xs} {k = k} h f =
+    put-over f ∙ ap (λ (l : List ℕ). xs ++ l) (drop-zeros (length xs) limit (omega (arith, f .sized)))
+
+module _ (f : ℕ → ℕ) (k : ℕ) (list : List ℕ) (e : list ≡ pad limit (tab f k)) (h : k ≤ limit) where
+  pub list-length : length list ≡ limit
+  list-length = ap length e ∙ length-pad limit (tab f k) (rw (length-tab f k) h)
+
+  pub list-covers : k ≤ length list
+  list-covers = omega (arith, list-length)
+
+  pub list-front : take k list ≡ tab f k
+  list-front = ap (take k) e ∙ take-at (tab f k) (replicate (limit - length (tab f k)) 0) k (length-tab f k)
+
+  pub record-room : {to a b c : ℕ} {xs ys zs q r s t : List ℕ} → to + recordSize limit ≤ length q → Put to 1 xs q r a → Put a 1 ys r s b → Put b 1 zs s t c
+      → c + length list ≤ length t
+  record-room room u v w = omega (arith, list-length, u .reached, v .reached, w .reached, put-length u, put-length v, put-length w)
+
+pub record-words-put : (text : List ℕ) (p x w k : ℕ) (list : List ℕ) {to a b c d : ℕ} {q r s t u : List ℕ}
+    → list ≡ pad limit (tab (memberIn text p) k) → k ≤ limit → x ≡ numberIn text p → w ≡ weightIn text p → k ≡ countIn text p
+    → Put to 1 (x ∷ []) q r a → Put a 1 (w ∷ []) r s b → Put b 1 (k ∷ []) s t c → Put c (length list) list t u d
+    → Put to (recordSize limit) (hyperedgeWords limit (hyperedgeFrom text p)) q u d
+record-words-put text p x w k list e h ex ew ek f g i j =
+    hyperedge-words-put text p x w ex ew ek f g (put-as (ap (λ (n : ℕ). 1 + n) (list-length (memberIn text p) k list e h)) (ap (λ (l : List ℕ). k ∷ l) e) (put-append i j))

@@ -3,12 +3,15 @@ ghost use mathlib.Core.Path.{_≡_};
 ghost use mathlib.Core.Bool.{false};
 ghost use Prim.Native.Nat.{_+_, _*_, _<_, _≤_};
 ghost use lib.ListN.{length};
-ghost use Rattle.layout.specs.Layout.{limit, hyperedgeLimit, recordSize};
+ghost use Rattle.lists.specs.Lists.{all, tab, pad};
+ghost use Rattle.layout.specs.Content.{isLive};
+ghost use Rattle.layout.specs.Layout.{limit, hyperedgeLimit, recordSize, hyperedgeWords};
 ghost use Rattle.layout.specs.WellFormed.{vertexColumn};
-ghost use Rattle.frames.specs.Reading.{nextHyperedgeOf, verticesDue, hyperedgesDue, vertexPlace, countIn, hyperedgeGood};
+ghost use Rattle.frames.specs.Put.{Put};
+ghost use Rattle.frames.specs.Reading.{nextHyperedgeOf, verticesDue, hyperedgesDue, vertexPlace, countIn, memberIn, hyperedgeFrom, hyperedgeGood};
 ghost use Rattle.reader.specs.Lines.{Valued, Sealed};
 ghost use Rattle.reader.specs.Passes.{Live};
-ghost use Rattle.reader.specs.Hyperedges.{hyperedgeFits, VerticesStored, HyperedgeRead, HyperedgesRead};
+ghost use Rattle.reader.specs.Hyperedges.{VerticesStored, HyperedgeRead, HyperedgesRead};
 
 // How many lines are good, and the place behind them.
 pub struct Walked {
@@ -16,70 +19,101 @@ pub struct Walked {
     pub at: usize,
 }
 
-// The line at the place is that of a hyperedge with a number from low to high, a count that fits and live members alone.
-fn hyperedge_fits(
+// Every vertex of the list is live.
+fn list_live(words: &[u32], list: &[u32]) -> bool
+    requires { ⌜ Live (now words) ⌝ }
+    ensures { λ r. ⌜ r ≡ all (isLive (vertexColumn (now (words .entry)))) (now (list .entry)) ⌝ }
+{
+    let mut i = 0;
+    while i < list.len() {
+        if !crate::is_live(words, crate::wide_word(list[i])) {
+            return false;
+        }
+        i += 1;
+    }
+    true
+}
+
+fn put_words(words: &mut [u32], to: usize, list: &[u32]) -> usize
+    requires { ⌜ to + length (now list) ≤ length (now words) ⌝ }
+    ensures { λ r. ⌜ Put to (length (now (list .entry))) (now (list .entry)) (now (words .entry)) (now (words .exit)) r ⌝ }
+{
+    let mut i = 0;
+    while i < list.len() {
+        words[to + i] = list[i];
+        i += 1;
+    }
+    to + i
+}
+
+// Stores the hyperedge of the line at the place, whose k members, and 0 behind them, are the list.
+fn put_hyperedge(
+    words: &mut [u32],
+    to: usize,
     values: &[u16; 256],
     text: &[u8],
     at: usize,
-    low: usize,
-    high: usize,
-    words: &[u32],
-) -> bool
+    k: usize,
+    list: &[u32],
+) -> usize
     requires { ⌜ Valued (now values) ⌝ }
-    requires { ⌜ Live (now words) ⌝ }
-    requires { ⌜ at ≤ length (now text) ⌝ }
-    ensures { λ r. ⌜ r ≡ hyperedgeFits (now (text .entry)) at low high (vertexColumn (now (words .entry))) ⌝ }
+    requires { ⌜ Sealed (now text) at (11 + k * 4) × ((k ≡ countIn (now text) at) × (k ≤ limit)) ⌝ }
+    requires { ⌜ now list ≡ pad limit (tab (memberIn (now text) at) k) ⌝ }
+    requires { ⌜ to + recordSize limit ≤ length (now words) ⌝ }
+    ensures { λ r. ⌜ Put to (recordSize limit) (hyperedgeWords limit (hyperedgeFrom (now (text .entry)) at)) (now (words .entry)) (now (words .exit)) r ⌝ }
 {
-    if text.len() - at < crate::HYPEREDGE_LENGTH {
-        return false;
-    }
-    let k = crate::byte_at(values, text, at + crate::COUNT_AT);
-    if k == 0 {
-        return false;
-    }
-    if layout::MEMBER_LIMIT < k {
-        return false;
-    }
-    if !crate::is_frame(
-        values,
-        text,
-        at,
-        crate::HYPEREDGE_BYTES + k * crate::MEMBER_BYTES,
-    ) {
-        return false;
-    }
-    sealed_hyperedge_fits(values, text, at, k, low, high, words)
+    let a = crate::put_word(
+        words,
+        to,
+        crate::number_at(values, text, at + crate::NUMBER_AT),
+    );
+    let b = crate::put_word(
+        words,
+        a,
+        crate::number_at(values, text, at + crate::WEIGHT_AT),
+    );
+    let c = crate::put_word(words, b, k);
+    put_words(words, c, list)
 }
 
-// The same where the line is known to be a frame of k members.
-fn sealed_hyperedge_fits(
+// Judges the hyperedge line at the place, which is a frame, and stores it at `to` where it fits: its count, or 0. Its k members, and 0
+// behind them, are the list.
+fn put_fitting(
+    words: &mut [u32],
+    to: usize,
     values: &[u16; 256],
     text: &[u8],
     at: usize,
     k: usize,
     low: usize,
     high: usize,
-    words: &[u32],
-) -> bool
+    list: &[u32],
+) -> usize
     requires { ⌜ Valued (now values) ⌝ }
     requires { ⌜ Live (now words) ⌝ }
     requires { ⌜ Sealed (now text) at (11 + k * 4) × ((k ≡ countIn (now text) at) × ((0 < k) × (k ≤ limit))) ⌝ }
-    ensures { λ r. ⌜ r ≡ hyperedgeFits (now (text .entry)) at low high (vertexColumn (now (words .entry))) ⌝ }
+    requires { ⌜ now list ≡ pad limit (tab (memberIn (now text) at) k) ⌝ }
+    requires { ⌜ to + recordSize limit ≤ length (now words) ⌝ }
+    ensures { λ r. ⌜ HyperedgeRead (now (text .entry)) at low high to (now (words .entry)) (now (words .exit)) r ⌝ }
 {
     if crate::byte_at(values, text, at) != 2 {
-        return false;
+        return 0;
     }
     if !crate::number_fits(
         crate::number_at(values, text, at + crate::NUMBER_AT),
         low,
         high,
     ) {
-        return false;
+        return 0;
     }
-    crate::members_live(values, text, at, k, words)
+    if !list_live(words, &list[..k]) {
+        return 0;
+    }
+    put_hyperedge(words, to, values, text, at, k, list);
+    k
 }
 
-// Judges the hyperedge line at the place, and stores it at `to` where it fits. Its count, or 0.
+// Judges the hyperedge line at the place, and stores it at `to` where it fits: its count, or 0.
 fn read_hyperedge(
     words: &mut [u32],
     to: usize,
@@ -94,12 +128,27 @@ fn read_hyperedge(
     requires { ⌜ (at ≤ length (now text)) × (to + recordSize limit ≤ length (now words)) ⌝ }
     ensures { λ r. ⌜ HyperedgeRead (now (text .entry)) at low high to (now (words .entry)) (now (words .exit)) r ⌝ }
 {
-    if !hyperedge_fits(values, text, at, low, high, words) {
+    if text.len() - at < crate::HYPEREDGE_LENGTH {
         return 0;
     }
     let k = crate::byte_at(values, text, at + crate::COUNT_AT);
-    crate::put_hyperedge(words, to, values, text, at, k);
-    k
+    if k == 0 {
+        return 0;
+    }
+    if layout::MEMBER_LIMIT < k {
+        return 0;
+    }
+    if !crate::is_frame(
+        values,
+        text,
+        at,
+        crate::HYPEREDGE_BYTES + k * crate::MEMBER_BYTES,
+    ) {
+        return 0;
+    }
+    let mut list = [0u32; layout::MEMBER_LIMIT];
+    crate::put_members(&mut list, 0, values, text, at, k);
+    put_fitting(words, to, values, text, at, k, low, high, &list)
 }
 
 // Judges the m hyperedge lines from the place on, one after the other, and stores each that is good, up to the first that is not. next

@@ -1,17 +1,16 @@
 // Frame text read back: a reader that holds the text and its place walks the lines, and a table is made of what stands in them.
 ghost use mathlib.Core.Path.{_≡_};
-ghost use mathlib.Core.Bool.{true};
 ghost use mathlib.Core.List.{[], _∷_};
 ghost use Prim.Native.Nat.{_+_, _*_, _<_, _≤_};
-ghost use lib.ListN.{length, replicate};
-ghost use Rattle.lists.specs.Lists.{all, tab, pad};
+ghost use lib.ListN.{length};
+ghost use Rattle.lists.specs.Lists.{tab};
 ghost use Rattle.layout.specs.Content.{isLive};
-ghost use Rattle.layout.specs.Layout.{limit, vertexLimit, size, recordSize, vertexWords, hyperedgeWords};
+ghost use Rattle.layout.specs.Layout.{limit, vertexLimit, size, vertexWords};
 ghost use Rattle.layout.specs.WellFormed.{vertexColumn};
 ghost use Rattle.layout.specs.Answers.{result};
 ghost use Rattle.frames.specs.Frames.{vertexOf};
 ghost use Rattle.frames.specs.Put.{Put};
-ghost use Rattle.frames.specs.Reading.{noValue, value, byteAt, shortAt, numberAt, numberIn, weightIn, countIn, memberIn, hyperedgeFrom, standsAt, readResult};
+ghost use Rattle.frames.specs.Reading.{noValue, value, byteAt, shortAt, numberAt, numberIn, weightIn, memberIn, standsAt, readResult};
 ghost use Rattle.reader.specs.Lines.{Valued, frameSum, lineEnd, sealedAt, Sealed, countsFit, numberFits, vertexFits};
 ghost use Rattle.reader.specs.Passes.{Live, storedRead, answerOf};
 use layout::Answer;
@@ -260,20 +259,19 @@ fn sealed_vertex_fits(values: &[u16; 256], text: &[u8], at: usize, low: usize, h
     number_fits(number_at(values, text, at + NUMBER_AT), low, high)
 }
 
-// Where x stands among the n vertices, if it does, by steps that do not wait for one another's outcome: a hint, of which nothing
-// more is promised.
-fn place_near(words: &[u32], n: usize, x: u32) -> usize
-    requires { ⌜ (length (now words) ≡ size limit) × (n ≤ vertexLimit) ⌝ }
-    ensures { λ r. ⌜ r ≤ n ⌝ }
+// Where x stands among the vertices, if it does, by eight steps that do not wait for one another's outcome: a hint, of which nothing
+// more is promised. No step looks at the first record, so a number of 0 is that of an unused one, and less 1 it is above all others.
+fn place_near(words: &[u32], x: u32) -> usize
+    requires { ⌜ length (now words) ≡ size limit ⌝ }
+    ensures { λ r. ⌜ r < vertexLimit ⌝ }
 {
     let mut p = 0;
-    let mut rest = n;
-    while 1 < rest {
-        let half = rest / 2;
-        if layout::vertex_number(words, p + half) <= x {
+    let mut half = 128;
+    while 0 < half {
+        if std::num::wrapping_sub_u32(layout::vertex_number(words, p + half), 1) < x {
             p += half;
         }
-        rest -= half;
+        half /= 2;
     }
     p
 }
@@ -289,7 +287,7 @@ fn is_live(words: &[u32], x: usize) -> bool
     if wide_word(layout::next_vertex(words)) == n {
         return x < n;
     }
-    let p = place_near(words, n, x as u32);
+    let p = place_near(words, x as u32);
     if p < n {
         if wide_word(layout::vertex_number(words, p)) == x {
             return true;
@@ -302,28 +300,10 @@ fn is_live(words: &[u32], x: usize) -> bool
     }
 }
 
-// Each of the k members of the hyperedge line at the place is live.
-fn members_live(values: &[u16; 256], text: &[u8], at: usize, k: usize, words: &[u32]) -> bool
-    requires { ⌜ Valued (now values) ⌝ }
-    requires { ⌜ Live (now words) ⌝ }
-    requires { ⌜ Sealed (now text) at (11 + k * 4) × (k ≤ limit) ⌝ }
-    ensures { λ r. ⌜ r ≡ all (isLive (vertexColumn (now (words .entry)))) (tab (memberIn (now (text .entry)) at) k) ⌝ }
-{
-    let mut i = 0;
-    while i < k {
-        let x = number_at(values, text, at + MEMBERS_AT + i * MEMBER_LENGTH);
-        if !is_live(words, x) {
-            return false;
-        }
-        i += 1;
-    }
-    true
-}
-
 // ---- words
 
 fn wide_word(x: u32) -> usize
-    ensures { λ r. ⌜ r ≡ x ⌝ }
+    ensures { λ r. ⌜ (r ≡ x) × (r < 4294967296) ⌝ }
 {
     x as usize
 }
@@ -366,57 +346,6 @@ fn put_members(
         i += 1;
     }
     next
-}
-
-fn put_zeros(words: &mut [u32], to: usize, k: usize) -> usize
-    requires { ⌜ to + k ≤ length (now words) ⌝ }
-    ensures { λ r. ⌜ Put to k (replicate k 0) (now (words .entry)) (now (words .exit)) r ⌝ }
-{
-    let mut next = to;
-    let mut i = 0;
-    while i < k {
-        next = put_word(words, next, 0);
-        i += 1;
-    }
-    next
-}
-
-// Stores the member list of the hyperedge line: its count, its members, and 0 in the words behind them.
-fn put_list(
-    words: &mut [u32],
-    to: usize,
-    values: &[u16; 256],
-    text: &[u8],
-    at: usize,
-    k: usize,
-) -> usize
-    requires { ⌜ Valued (now values) ⌝ }
-    requires { ⌜ Sealed (now text) at (11 + k * 4) × (k ≤ limit) ⌝ }
-    requires { ⌜ to + (1 + limit) ≤ length (now words) ⌝ }
-    ensures { λ r. ⌜ Put to (1 + limit) (k ∷ pad limit (tab (memberIn (now (text .entry)) at) k)) (now (words .entry)) (now (words .exit)) r ⌝ }
-{
-    let a = put_word(words, to, k);
-    let b = put_members(words, a, values, text, at, k);
-    put_zeros(words, b, layout::MEMBER_LIMIT - k)
-}
-
-// Stores the hyperedge whose line stands at the place.
-fn put_hyperedge(
-    words: &mut [u32],
-    to: usize,
-    values: &[u16; 256],
-    text: &[u8],
-    at: usize,
-    k: usize,
-) -> usize
-    requires { ⌜ Valued (now values) ⌝ }
-    requires { ⌜ Sealed (now text) at (11 + k * 4) × ((k ≡ countIn (now text) at) × (k ≤ limit)) ⌝ }
-    requires { ⌜ to + recordSize limit ≤ length (now words) ⌝ }
-    ensures { λ r. ⌜ Put to (recordSize limit) (hyperedgeWords limit (hyperedgeFrom (now (text .entry)) at)) (now (words .entry)) (now (words .exit)) r ⌝ }
-{
-    let a = put_word(words, to, number_at(values, text, at + NUMBER_AT));
-    let b = put_word(words, a, number_at(values, text, at + WEIGHT_AT));
-    put_list(words, b, values, text, at, k)
 }
 
 // ---- reading

@@ -66,14 +66,3 @@ module _ {ws : List ℕ} (f : Formed limit ws) (R : ℕ → ℕ → Bool) (am : 
     walk = reach-numbers (c .walk);
     back = edge-number (c .last) (c .from) (c .back);
   }
-
-  pub closed-records : Closed (Related R) → Closed (Edge E (vertexCount ws))
-  closed-records c =
-      let i = record-of ws (c .from) (am (c .last) (c .from) (c .back) .1) in
-      let j = record-of ws (c .last) (am (c .last) (c .from) (c .back) .0) in
-      record {
-        from = i .0;
-        last = j .0;
-        walk = to-records (c .walk) (i .0) (j .0) (i .1) (j .1) (i .2) (j .2);
-        back = edge-record (j .0) (i .0) (j .1) (i .1) (ap₂ R (j .2) (i .2) ∙ c .back);
-      }

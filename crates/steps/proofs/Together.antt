@@ -3,7 +3,7 @@ use mathlib.Core.Path.{_≡_, refl, sym, ap, subst}
 use mathlib.Core.Bool.{Bool, true, _||_}
 use mathlib.Core.Logic.{⊎-elim}
 use mathlib.Core.List.{List, [], _∷_}
-use Prim.Native.Nat.{ℕ, _<_}
+use Prim.Native.Nat.{ℕ}
 use lib.Dec.{eqb}
 use lib.ListN.{getD}
 use borrow.Author.Tests.{eq-eqb, eqb-true}
@@ -13,14 +13,10 @@ use Rattle.lists.proofs.Cases.{clash, or-true, or-right, and-left, and-right, a
 use Rattle.walks.specs.Walks.{Reach, here, step}
 use Rattle.walks.proofs.Walks.{reach-trans, reach-through, reach-map}
 use Rattle.layout.specs.Content.{Table}
-use Rattle.layout.specs.Layout.{limit, vertexCount, read}
-use Rattle.layout.specs.WellFormed.{Formed}
 use Rattle.layout.specs.Steps.{stepsOf, isStep, makesStep, hasStep}
-use Rattle.steps.specs.Matrices.{linked, listsBoth, together, turned, Related, LinkIn, TogetherIn, numberOf, linksBetween, Holds}
-use Rattle.graph.specs.Reach.{matrix, Edge}
+use Rattle.steps.specs.Matrices.{linked, listsBoth, together, turned, Related, LinkIn, TogetherIn}
 use Rattle.steps.proofs.Any.{any-at, any-of}
-use Rattle.steps.proofs.Among.{noHyperedge, step-together, together-swap, links-among}
-use Rattle.steps.proofs.Records.{holds-agrees, reach-numbers, reach-records}
+use Rattle.steps.proofs.Among.{noHyperedge, step-together, together-swap}
 
 -- ---- the other way round
 
@@ -76,15 +72,3 @@ module _ (t : Table) where
 
   pub reach-linked : {x y : ℕ} → Reach (TogetherIn t) x y → Reach (LinkIn t) x y
   reach-linked a = reach-through together-linked a
-
--- ---- in the matrix of links, by record
-
-module _ {ws : List ℕ} (f : Formed limit ws) {m : List ℕ} (w : Holds (linksBetween (read limit ws)) (vertexCount ws) m) where
-  pub together-numbers : {i j : ℕ} → Reach (Edge (matrix m) (vertexCount ws)) i j → Reach (TogetherIn (read limit ws)) (numberOf (read limit ws) i) (numberOf (read limit ws) j)
-  together-numbers a =
-      reach-together (read limit ws) (reach-numbers f (linked (read limit ws)) (links-among (read limit ws) (f .content)) (matrix m) (holds-agrees f (linked (read limit ws)) w) a)
-
-  pub together-records : (i j : ℕ) → i < vertexCount ws → j < vertexCount ws → Reach (TogetherIn (read limit ws)) (numberOf (read limit ws) i) (numberOf (read limit ws) j)
-      → Reach (Edge (matrix m) (vertexCount ws)) i j
-  together-records i j hi hj a =
-      reach-records f (linked (read limit ws)) (links-among (read limit ws) (f .content)) (matrix m) (holds-agrees f (linked (read limit ws)) w) i j hi hj (reach-linked (read limit ws) a)

@@ -5,10 +5,8 @@ use Prim.Native.Nat.{ℕ}
 use lib.ListN.{length}
 use Rattle.lists.specs.Tests.{bit}
 use Rattle.lists.specs.Lists.{memb}
-use Rattle.layout.specs.declared.Found.{Found}
-use Rattle.layout.specs.declared.Found.the-variants.{At, Nothing}
 use Rattle.layout.specs.declared.Answer.the-variants.{Done}
-use Rattle.layout.specs.Content.{Table, liveVertices, position}
+use Rattle.layout.specs.Content.{Table, liveVertices, position, place}
 use Rattle.layout.specs.Answers.{Result, result, onLiveVertex, onLiveVertices, listed}
 use Rattle.graph.specs.Bfs.{bfs}
 use Rattle.depth.specs.Pre.{preorder}
@@ -24,10 +22,6 @@ searchOf DepthFirst E n i = preorder E n i
 -- along the steps, from record i: the numbers of the records
 unfoldable pub listFrom : Order → Table → ℕ → List ℕ
 listFrom how t i = map (numberOf t) (searchOf how (stepsBetween t) (length (liveVertices t)) i)
-
-abbrev pub place : Found → ℕ
-place (At i) = i
-place Nothing = 0
 
 -- from a live vertex
 unfoldable pub traversal : Order → Table → ℕ → List ℕ

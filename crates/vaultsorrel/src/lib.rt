@@ -17,6 +17,7 @@ ghost use Rattle.cut.specs.Cut.{cutVerticesResult};
 ghost use Rattle.paths.specs.Paths.{pairResult, fromResult};
 ghost use Rattle.walk.specs.Walk.{walkResult};
 ghost use Rattle.frames.specs.Frames.{writeResult};
+ghost use Rattle.frames.specs.Reading.{readResult};
 use layout::HyperedgeIndex;
 use layout::Reply;
 use layout::VertexIndex;
@@ -385,4 +386,12 @@ pub extern "C" fn vs_write_frames(t: &[u32], text: &mut [u8]) -> Reply
     ensures { λ r. ⌜ replied r (now (text .exit)) ≡ onFormed (now (t .entry)) (now (text .entry)) (writeResult (now (text .entry))) ⌝ }
 {
     layout::reply_of(frames::write_frames(t, text))
+}
+
+// Reads frame text into a table, or names the first line that no written text could have there.
+#[no_mangle]
+pub extern "C" fn vs_read_frames(t: &mut [u32], text: &[u8]) -> Reply
+    ensures { λ r. ⌜ replied r (now (t .exit)) ≡ readResult (now (text .entry)) (now (t .entry)) ⌝ }
+{
+    layout::reply_of(reader::read_frames(t, text))
 }

@@ -1,136 +1,172 @@
--- Laws of the matrix that marks which record lists which vertex. Assumes nothing.
+-- Laws of the rows of the records that list each vertex. Assumes nothing.
 use mathlib.Core.Path.{_≡_, refl, sym, ap, _∙_, subst}
-use mathlib.Core.Bool.{Bool, true, false, _||_}
-use mathlib.Core.List.{List, [], _∷_}
+use mathlib.Core.Bool.{Bool, true, false, not, cond}
+use mathlib.Core.List.{List, [], _∷_, _++_}
 use Prim.Native.Nat.{ℕ, _+_, _*_, _≤_, _<_}
 use native.Mathlib.Numerals.{add-one}
-use mathlib.Core.Logic.{⊎-elim}
-use native.Mathlib.Nat.{eq-or-lt-of-le}
 use native.Mathlib.Omega.{arith}
-use lib.Dec.{eqb, ltb}
 use lib.ListN.{length, getD, take, set, replicate}
 use lib.Seq.{take-suc, take-all}
-use borrow.Author.Tests.{eq-eqb, ne-eqb, lt-ltb, le-ltb, ltb-true}
-use Rattle.lists.specs.Tests.{_and_}
+use borrow.Author.Tests.{not-true, not-false}
 use Rattle.lists.specs.Lists.{memb}
-use Rattle.lists.proofs.Cases.{on, on-same, on-below, or-false, and-true, and-false-left, and-false-right}
-use Rattle.lists.proofs.Memb.{memb-append}
+use Rattle.lists.proofs.Cases.{on, on-same}
+use Rattle.lists.proofs.Memb.{memb-snoc-self, memb-snoc-other, memb-getD, below-memb}
 use Rattle.lists.proofs.Ascend.{ascending-apart}
+use Rattle.lists.proofs.Count.{count-le}
+use Rattle.lists.proofs.Chosen.{chosen-in, chosen-out, chosen-none, chosen-count}
 use Rattle.layout.specs.declared.Found.{Found}
 use Rattle.layout.specs.declared.Found.the-variants.{At, Nothing}
 use Rattle.layout.specs.Content.{liveVertices, position}
 use Rattle.layout.specs.Layout.{limit, vertexLimit, vertexCount, hyperedgeCount, membersAt, read}
 use Rattle.layout.specs.WellFormed.{Formed}
 use Rattle.layout.proofs.Position.{position-found, position-missing}
-use Rattle.layout.proofs.Read.{live-length, live-ascends, vertex-found}
-use Rattle.graph.specs.Reach.{matrix}
-use Rattle.steps.specs.Matrices.{numberOf, cell, Holds}
-use Rattle.steps.proofs.Holds.{holds-ext, holds-none, holds-matrix, holds-set}
-use Rattle.walk.specs.Passes.{listsAt, entered, listedBy, Members}
+use Rattle.layout.proofs.Read.{live-length, live-ascends}
+use Rattle.graph.proofs.Outside.{chosen-below}
+use Rattle.steps.specs.Matrices.{numberOf, cell}
+use Rattle.walk.specs.Passes.{isFirst, Firsts, listsAt, listers, entering, Entering, Listers, listersOf}
+use Rattle.walk.proofs.Rows.{rows-none, rows-ext, rows-append}
 
--- ---- one search: p is what `find_vertex` returned
+-- ---- the places of the records that list a vertex
 
-module _ (ws : List ℕ) (x j : ℕ) (m : List ℕ) (p : Found) (e : p ≡ position x (liveVertices (read limit ws))) where
-  pub entered-none : p ≡ Nothing → m ≡ entered (position x (liveVertices (read limit ws))) j m
-  entered-none h = rw (← e, h)
+module _ (ws : List ℕ) (k i : ℕ) where
+  pub listers-few : length (listers ws k i) ≤ k
+  unfolding listers
+  listers-few = rw chosen-count (count-le (listsAt ws (numberOf (read limit ws) i)) k)
 
-  pub entered-one : (i : ℕ) (next : List ℕ) → p ≡ At i → next ≡ set m (cell i j) 1 → next ≡ entered (position x (liveVertices (read limit ws))) j m
-  entered-one i next h q = rw (← e, h) q
+  pub listers-below : (q : ℕ) → q < length (listers ws k i) → getD (listers ws k i) q 0 < k
+  unfolding listers
+  listers-below q h =
+      let js : List ℕ = listers ws k i in
+      below-memb k js (chosen-below (listsAt ws (numberOf (read limit ws) i)) k k (omega arith)) (getD js q 0) (memb-getD js q h)
 
-  pub entered-in : (i : ℕ) → Formed limit ws → p ≡ At i → i < vertexLimit
-  entered-in i f h = omega (arith, vertex-found limit ws x i (sym e ∙ h) .0, f .shape .vertices-le)
+  pub listers-in : listsAt ws (numberOf (read limit ws) i) k ≡ true → listers ws (k + 1) i ≡ listers ws k i ++ (k ∷ [])
+  unfolding listers
+  listers-in e = chosen-in (listsAt ws (numberOf (read limit ws) i)) k e
 
--- ---- while hyperedge record k is gone through: p of its members are entered
+  pub listers-out : listsAt ws (numberOf (read limit ws) i) k ≡ false → listers ws (k + 1) i ≡ listers ws k i
+  unfolding listers
+  listers-out e = chosen-out (listsAt ws (numberOf (read limit ws) i)) k e
 
-unfoldable pub entering : List ℕ → ℕ → ℕ → ℕ → ℕ → Bool
-entering ws k p i j = listedBy ws k i j || (ltb i (vertexCount ws) and eqb j k and memb (numberOf (read limit ws) i) (take p (membersAt limit ws k)))
+pub listers-none : (ws : List ℕ) (i : ℕ) → listers ws 0 i ≡ []
+unfolding listers
+listers-none ws i = chosen-none _
 
-spread-or : (a b c d e : Bool) → (a || (b and c and (d || e))) ≡ ((a || (b and c and d)) || (b and c and e))
-unfolding _and_
-spread-or true b c d e = refl
-spread-or false false c d e = refl
-spread-or false true false d e = refl
-spread-or false true true d e = refl
+-- ---- while record k is gone through: p of its members are entered
 
-module _ (ws : List ℕ) (f : Formed limit ws) (k p x : ℕ) (ms : List ℕ) (em : ms ≡ membersAt limit ws k) (h : p < length ms) (ex : x ≡ getD ms p 0) where
-  abbrev live : List ℕ
-  live = liveVertices (read limit ws)
-
-  -- one member more
-  grown : (i j : ℕ) → entering ws k (p + 1) i j ≡ (entering ws k p i j || (ltb i (vertexCount ws) and eqb j k and eqb (getD live i 0) x))
-  unfolding entering
-  grown i j = rw (← em, add-one p, take-suc ms p 0 h, ← ex, memb-append (getD live i 0) (take p ms) (x ∷ []), or-false (eqb (getD live i 0) x)) (spread-or (listedBy ws k i j) (ltb i (vertexCount ws)) (eqb j k) (memb (getD live i 0) (take p ms)) (eqb (getD live i 0) x))
-
-  -- no vertex record but one that has the number x is entered
-  entered-others : (i j : ℕ) → (i < length live → getD live i 0 ≡ x → ⊥) → (ltb i (vertexCount ws) and eqb j k and eqb (getD live i 0) x) ≡ false
-  entered-others i j ne =
-      on (ltb i (vertexCount ws))
-      (λ q. and-false-right _ _ (and-false-right (eqb j k) _ (ne-eqb (getD live i 0) x (ne (rw (live-length limit ws) (ltb-true i (vertexCount ws) q))))))
-      (λ q. and-false-left _ _ q)
-
-  entered-at : (a : ℕ) → position x live ≡ At a → (i j : ℕ) → (ltb i (vertexCount ws) and eqb j k and eqb (getD live i 0) x) ≡ (eqb i a and eqb j k)
-  unfolding _and_
-  entered-at a e i j =
-      let at = position-found x live a e in
-      let la : a < vertexCount ws = rw (live-length limit ws) at (at .0) in
-      on-same i a
-      (λ q. rw (q, lt-ltb a (vertexCount ws) la, eq-eqb a a refl, eq-eqb (getD live a 0) x (at .1)) (and-true (eqb j k)))
-      (λ q. rw (ne-eqb i a q) (entered-others i j (λ l s. ascending-apart live (live-ascends limit ws f) i a l (at .0) q (s ∙ sym (at .1)))))
-
-  pub entering-more : {m next : List ℕ} → Holds (entering ws k p) vertexLimit m → k < hyperedgeCount ws → next ≡ entered (position x live) k m
-      → Holds (entering ws k (p + 1)) vertexLimit next
-  entering-more {m} w lk q = subst (Holds (entering ws k (p + 1)) vertexLimit) (sym q) (go (position x live) refl)
-    where
-      go : (r : Found) → position x live ≡ r → Holds (entering ws k (p + 1)) vertexLimit (entered r k m)
-      go Nothing e = holds-ext (λ i j li lj. sym (grown i j ∙ ap (λ (z : Bool). entering ws k p i j || z) (entered-others i j (position-missing x live e i)) ∙ or-false _)) w
-      go (At a) e =
-          holds-set w a k (omega arith) (omega (arith, vertex-found limit ws x a e .0, f .shape .vertices-le)) (omega (arith, f .shape .hyperedges-le))
-          (λ i j li lj. grown i j ∙ ap (λ (z : Bool). entering ws k p i j || z) (entered-at a e i j))
-
-pub entering-none : (ws : List ℕ) (k : ℕ) {m : List ℕ} → Holds (listedBy ws k) vertexLimit m → Holds (entering ws k 0) vertexLimit m
+-- the test decides the row
+entering-as : (ws : List ℕ) (k p i : ℕ) (b : Bool) → memb (numberOf (read limit ws) i) (take p (membersAt limit ws k)) ≡ b
+    → entering ws k p i ≡ cond b (listers ws k i ++ (k ∷ [])) (listers ws k i)
 unfolding entering
-entering-none ws k w =
-    holds-ext (λ i j li lj. sym (ap (λ (z : Bool). listedBy ws k i j || z) (and-false-right _ _ (and-false-right (eqb j k) false refl)) ∙ or-false _)) w
+entering-as ws k p i b e = ap (λ (b : Bool). cond b (listers ws k i ++ (k ∷ [])) (listers ws k i)) e
 
--- j is below k + 1 where it is below k, or k
-below-next : (j k : ℕ) → ltb j (k + 1) ≡ (ltb j k || eqb j k)
-below-next j k =
-    on-below j k
-    (λ h. rw (lt-ltb j k h) (lt-ltb j (k + 1) (omega arith)))
-    (λ h. rw (le-ltb j k h) (on-same j k
-    (λ q. lt-ltb j (k + 1) (omega arith) ∙ sym (eq-eqb j k q))
-    (λ q. le-ltb j (k + 1) (above j k h q) ∙ sym (ne-eqb j k q))))
-  where
-    above : (j k : ℕ) → k ≤ j → (j ≡ k → ⊥) → k + 1 ≤ j
-    above j k h q = ⊎-elim (λ e. absurd (q (sym e))) (λ l. omega arith) (eq-or-lt-of-le h)
+-- the row is the same where the test is
+entering-same : (ws : List ℕ) (k p r i : ℕ) → memb (numberOf (read limit ws) i) (take p (membersAt limit ws k)) ≡ memb (numberOf (read limit ws) i) (take r (membersAt limit ws k))
+    → entering ws k p i ≡ entering ws k r i
+entering-same ws k p r i e = entering-as ws k p i _ e ∙ sym (entering-as ws k r i _ refl)
 
-all-entered : (ws : List ℕ) (k p : ℕ) (ms : List ℕ) → ms ≡ membersAt limit ws k → length ms ≤ p → (i j : ℕ) → entering ws k p i j ≡ listedBy ws (k + 1) i j
-unfolding entering listedBy _and_
-all-entered ws k p ms em h i j =
-    rw (← em, take-all p ms h, below-next j k)
-    (on (ltb i (vertexCount ws))
-    (λ a. rw a (on-same j k
-    (λ q. rw (q, eq-eqb k k refl, le-ltb k k (omega arith), ← em))
-    (λ q. rw (ne-eqb j k q, or-false (ltb j k)) (or-false _))))
-    (λ a. rw a))
+module _ (ws : List ℕ) (k p x : ℕ) (h : p < length (membersAt limit ws k)) (ex : x ≡ getD (membersAt limit ws k) p 0) where
+  abbrev ms : List ℕ
+  ms = membersAt limit ws k
 
-pub entering-all : (ws : List ℕ) (k p : ℕ) (ms : List ℕ) → ms ≡ membersAt limit ws k → length ms ≤ p → {m : List ℕ}
-    → Holds (entering ws k p) vertexLimit m → Holds (listedBy ws (k + 1)) vertexLimit m
-entering-all ws k p ms em h w = holds-ext (λ i j li lj. all-entered ws k p ms em h i j) w
+  memb-here : (v : ℕ) → v ≡ x → memb v (take (p + 1) ms) ≡ true
+  memb-here v e = rw (add-one, take-suc ms p 0 h, e, ← ex) (memb-snoc-self x (take p ms))
+
+  memb-other : (v : ℕ) → (v ≡ x → ⊥) → memb v (take (p + 1) ms) ≡ memb v (take p ms)
+  memb-other v ne = rw (add-one, take-suc ms p 0 h, ← ex) (memb-snoc-other v x (take p ms) ne)
+
+  before-not : isFirst ms p ≡ true → memb x (take p ms) ≡ false
+  unfolding isFirst
+  before-not e = not-true _ (ap (λ (y : ℕ). not (memb y (take p ms))) ex ∙ e)
+
+  before-yes : isFirst ms p ≡ false → memb x (take p ms) ≡ true
+  unfolding isFirst
+  before-yes e = not-false _ (ap (λ (y : ℕ). not (memb y (take p ms))) ex ∙ e)
+
+  -- a member that stood before: no row changes
+  pub entering-again : {rows counts : List ℕ} → Entering ws k p rows counts → k < hyperedgeCount ws → {firsts : List Bool} → Firsts ws firsts → not (getD firsts (cell k p) false) ≡ true
+      → Entering ws k (p + 1) rows counts
+  entering-again w lk m n =
+      let e : isFirst ms p ≡ false = sym (m .before k p lk h) ∙ not-true _ n in
+      rows-ext w (entering ws k (p + 1))
+      (λ i l. entering-same ws k (p + 1) p i
+      (on-same (numberOf (read limit ws) i) x
+      (λ q. memb-here _ q ∙ sym (rw q (before-yes e)))
+      (λ q. memb-other _ q)))
+
+  -- a member that did not: its row has one place more
+  module _ (f : Formed limit ws) {rows counts : List ℕ} (w : Entering ws k p rows counts) (lk : k < hyperedgeCount ws) {firsts : List Bool} (m : Firsts ws firsts)
+      (n : not (getD firsts (cell k p) false) ≡ false) (fd : Found) (efd : fd ≡ position x (liveVertices (read limit ws))) where
+    first : isFirst ms p ≡ true
+    first = sym (m .before k p lk h) ∙ not-false _ n
+
+    pub enter-none : fd ≡ Nothing → Entering ws k (p + 1) rows counts
+    enter-none q =
+        rows-ext w (entering ws k (p + 1))
+        (λ i l. entering-same ws k (p + 1) p i (memb-other _ (position-missing x (liveVertices (read limit ws)) (sym efd ∙ q) i (rw (live-length limit ws) l))))
+
+    module _ (a : ℕ) (q : fd ≡ At a) where
+      place : (a < length (liveVertices (read limit ws))) × (numberOf (read limit ws) a ≡ x)
+      place = position-found x (liveVertices (read limit ws)) a (sym efd ∙ q)
+
+      low : a < vertexCount ws
+      low = rw (live-length limit ws) at (place .0)
+
+      row : entering ws k p a ≡ listers ws k a
+      row = entering-as ws k p a false (rw (place .1) (before-not first))
+
+      short : length (entering ws k p a) < vertexLimit
+      short = omega (arith, ap length row, listers-few ws k a, f .shape .hyperedges-le)
+
+      pub enter-in : a < vertexLimit
+      enter-in = omega (arith, low, f .shape .vertices-le)
+
+      pub enter-room : getD counts a 0 < vertexLimit
+      enter-room = omega (arith, w .many a low, short)
+
+      pub enter-one : (rows′ counts′ : List ℕ) → rows′ ≡ set rows (cell a (getD counts a 0)) k → counts′ ≡ set counts a (getD counts a 0 + 1) → Entering ws k (p + 1) rows′ counts′
+      enter-one rows′ counts′ er ec =
+          rw (er, ec, w .many a low)
+          (rows-append w (entering ws k (p + 1)) a k (f .shape .vertices-le) low short
+          (entering-as ws k (p + 1) a true (memb-here _ (place .1)) ∙ sym (ap (λ (js : List ℕ). js ++ (k ∷ [])) row))
+          (λ i l ne. entering-same ws k (p + 1) p i (memb-other _ (λ e. ascending-apart (liveVertices (read limit ws)) (live-ascends limit ws f) i a (rw (live-length limit ws) l) (place .0) ne (e ∙ sym (place .1))))))
+
+pub entering-none : (ws : List ℕ) (k : ℕ) {rows counts : List ℕ} → Listers ws k rows counts → Entering ws k 0 rows counts
+entering-none ws k w = rows-ext w (entering ws k 0) (λ i l. entering-as ws k 0 i false refl)
+
+pub entering-all : (ws : List ℕ) (k p : ℕ) (ms : List ℕ) → ms ≡ membersAt limit ws k → length ms ≤ p → {rows counts : List ℕ}
+    → Entering ws k p rows counts → Listers ws (k + 1) rows counts
+entering-all ws k p ms em h w =
+    rows-ext w (listers ws (k + 1))
+    (λ i l. let e : take p (membersAt limit ws k) ≡ membersAt limit ws k = take-all p (membersAt limit ws k) (rw (ap length em) at h) in
+    on (listsAt ws (numberOf (read limit ws) i) k)
+    (λ q. listers-in ws k i q ∙ sym (entering-as ws k p i true (ap (memb (numberOf (read limit ws) i)) e ∙ q)))
+    (λ q. listers-out ws k i q ∙ sym (entering-as ws k p i false (ap (memb (numberOf (read limit ws) i)) e ∙ q))))
+
+-- ms are the members of record k
+module _ (ws : List ℕ) (k p : ℕ) (ms : List ℕ) (em : ms ≡ membersAt limit ws k) where
+  pub listed-in : p < length ms → p < length (membersAt limit ws k)
+  listed-in h = subst (λ (xs : List ℕ). p < length xs) em h
+
+  pub listed-at : getD ms p 0 ≡ getD (membersAt limit ws k) p 0
+  listed-at = ap (λ (xs : List ℕ). getD xs p 0) em
 
 -- ---- all records
 
-pub members-none : (ws : List ℕ) → Holds (listedBy ws 0) vertexLimit (replicate (vertexLimit * vertexLimit) 0)
-unfolding listedBy
-members-none ws = holds-none (listedBy ws 0) vertexLimit (λ i j. and-false-right _ _ (and-false-left (ltb j 0) _ (le-ltb j 0 (omega arith))))
+pub listed-none : (ws : List ℕ) → Formed limit ws → Listers ws 0 (replicate (vertexLimit * vertexLimit) 0) (replicate vertexLimit 0)
+listed-none ws f = rows-none (vertexCount ws) (listers ws 0) (f .shape .vertices-le) (listers-none ws)
 
-pub members-all : (ws : List ℕ) (j k : ℕ) → k ≡ hyperedgeCount ws → j ≤ k → k ≤ j → {m : List ℕ} → Holds (listedBy ws j) vertexLimit m → Members ws m
-members-all ws j k e a b {m} w = let q : j ≡ hyperedgeCount ws = omega arith in subst (λ (z : ℕ). Holds (listedBy ws z) vertexLimit m) q w
+pub listed-all : (ws : List ℕ) (j k : ℕ) → k ≡ hyperedgeCount ws → j ≤ k → k ≤ j → {rows counts : List ℕ} → Listers ws j rows counts → Listers ws (hyperedgeCount ws) rows counts
+listed-all ws j k e a b {rows} {counts} w = let q : j ≡ hyperedgeCount ws = omega arith in subst (λ (z : ℕ). Listers ws z rows counts) q w
 
--- what the code reads: the mark of record i and record j
-pub member-mark : (ws : List ℕ) → Formed limit ws → {m : List ℕ} → Members ws m → (i j : ℕ) → i < vertexCount ws → j < hyperedgeCount ws
-    → eqb (getD m (cell i j) 0) 1 ≡ listsAt ws (numberOf (read limit ws) i) j
-unfolding listedBy _and_
-member-mark ws f w i j li lj =
-    holds-matrix w (omega arith) i j (omega (arith, f .shape .vertices-le)) (omega (arith, f .shape .hyperedges-le))
-    ∙ rw (lt-ltb i (vertexCount ws) li, lt-ltb j (hyperedgeCount ws) lj)
+-- ---- what the code reads
+
+module _ (ws : List ℕ) (f : Formed limit ws) {rows counts : List ℕ} (w : Listers ws (hyperedgeCount ws) rows counts) (i : ℕ) (l : i < vertexCount ws) where
+  pub lister-in : (k : ℕ) → k < length (listersOf ws i) → cell i k < vertexLimit * vertexLimit
+  lister-in k h = omega (arith, w .fits i l, f .shape .vertices-le)
+
+  module _ (k r : ℕ) (h : k < length (listersOf ws i)) (e : r ≡ getD rows (cell i k) 0) where
+    pub lister-is : r ≡ getD (listersOf ws i) k 0
+    lister-is = e ∙ w .entry i k l h
+
+    pub lister-low : r < hyperedgeCount ws
+    lister-low = rw lister-is (listers-below ws (hyperedgeCount ws) i k h)

@@ -1,3 +1,5 @@
+pub mod FirstPlaces
+pub mod Rows
 pub mod Entered
 pub mod Listing
 pub mod Others

@@ -10,12 +10,16 @@ use lib.ListN.{length, getD, take, set, length-set}
 use lib.Seq.{take-suc, take-set-le, getD-set-same, getD-take}
 use borrow.Author.Tests.{eq-eqb, ne-eqb, not-true, not-false}
 use Rattle.lists.specs.Tests.{count, chosen}
-use Rattle.lists.specs.Lists.{memb}
 use Rattle.lists.proofs.Maps.{map-length, map-snoc}
 use Rattle.lists.proofs.Count.{count-le, count-in, count-out}
 use Rattle.lists.proofs.Chosen.{chosen-count, chosen-in, chosen-out}
-use Rattle.layout.specs.Layout.{vertexLimit}
+use Rattle.layout.specs.Layout.{limit, vertexLimit, hyperedgeCount, membersAt}
+use Rattle.layout.specs.WellFormed.{Formed}
+use Rattle.layout.proofs.Read.{members-le}
+use Rattle.steps.specs.Matrices.{cell}
 use Rattle.walk.specs.Walk.{isFirstOther, memberAt, others, walker, xorshift, toOneOf}
+use Rattle.walk.specs.Passes.{isFirst, Firsts}
+use Rattle.walk.proofs.FirstPlaces.{first-mark}
 
 -- ---- one place: x stands there
 
@@ -24,9 +28,11 @@ module _ (ms : List ℕ) (v i x : ℕ) (e : x ≡ getD ms i 0) where
   unfolding isFirstOther
   other-same q = rw (← e, eq-eqb x v q)
 
-  pub other-first : (x ≡ v → ⊥) → (r : Bool) → r ≡ memb x (take i ms) → not r ≡ isFirstOther v ms i
-  unfolding isFirstOther
-  other-first n r q = rw (← e, ne-eqb x v n, q)
+-- ms are the members of record j
+pub other-first : (ms : List ℕ) (v i : ℕ) → (getD ms i 0 ≡ v → ⊥) → (ws : List ℕ) (j : ℕ) {firsts : List Bool} → Firsts ws firsts → ms ≡ membersAt limit ws j → j < hyperedgeCount ws
+    → i < length ms → getD firsts (cell j i) false ≡ isFirstOther v ms i
+unfolding isFirst isFirstOther
+other-first ms v i n ws j w em lj li = first-mark ws w j i ms em lj li ∙ rw (ne-eqb (getD ms i 0) v n)
 
 -- ---- their number
 
@@ -40,15 +46,20 @@ counted-all v ms c i inv a b = inv ∙ ap (count (isFirstOther v ms)) (le-antisy
 -- ---- the loop that lists them: the first c places of found are those before place i
 
 pub record Picked (v : ℕ) (ms found : List ℕ) (c i : ℕ) : Type 0 where
+  pub few : length ms ≤ vertexLimit
   pub within : i ≤ length ms
   pub at-most : c ≤ i
   pub counted : c ≡ count (isFirstOther v ms) i
   pub sized : length found ≡ vertexLimit
   pub taken : take c found ≡ map (memberAt ms) (chosen (isFirstOther v ms) i)
 
-pub picked-none : (v : ℕ) (ms found : List ℕ) → length found ≡ vertexLimit → Picked v ms found 0 0
+-- ms are the members of record j
+pub members-fit : (ws : List ℕ) → Formed limit ws → (j : ℕ) → j < hyperedgeCount ws → (ms : List ℕ) → ms ≡ membersAt limit ws j → length ms ≤ vertexLimit
+members-fit ws f j h ms e = omega (arith, ap length e, members-le limit ws f j h)
+
+pub picked-none : (v : ℕ) (ms found : List ℕ) → length ms ≤ vertexLimit → length found ≡ vertexLimit → Picked v ms found 0 0
 unfolding chosen
-picked-none v ms found l = record { within = omega arith; at-most = omega arith; counted = refl; sized = l; taken = refl }
+picked-none v ms found h l = record { few = h; within = omega arith; at-most = omega arith; counted = refl; sized = l; taken = refl }
 
 module _ (v : ℕ) (ms found : List ℕ) (c i : ℕ) (inv : Picked v ms found c i) where
   module _ (h : i < length ms) (r : Bool) (e : r ≡ isFirstOther v ms i) where
@@ -56,6 +67,7 @@ module _ (v : ℕ) (ms found : List ℕ) (c i : ℕ) (inv : Picked v ms found c 
     picked-skip q =
         let o : isFirstOther v ms i ≡ false = sym e ∙ not-true r q in
         record {
+          few = inv .few;
           within = omega arith;
           at-most = omega (arith, inv .at-most);
           counted = count-out (isFirstOther v ms) i c (inv .counted) c o refl;
@@ -63,11 +75,12 @@ module _ (v : ℕ) (ms found : List ℕ) (c i : ℕ) (inv : Picked v ms found c 
           taken = rw (chosen-out (isFirstOther v ms) i o) (inv .taken);
         }
 
-    pub picked-on : length ms ≤ vertexLimit → not r ≡ false → (x : ℕ) → x ≡ getD ms i 0 → Picked v ms (set found c x) (c + 1) (i + 1)
-    picked-on l q x ex =
+    pub picked-on : not r ≡ false → (x : ℕ) → x ≡ getD ms i 0 → Picked v ms (set found c x) (c + 1) (i + 1)
+    picked-on q x ex =
         let o : isFirstOther v ms i ≡ true = sym e ∙ not-false r q in
-        let s : c < length found = omega (arith, inv .sized, inv .at-most) in
+        let s : c < length found = omega (arith, inv .few, inv .sized, inv .at-most) in
         record {
+          few = inv .few;
           within = omega arith;
           at-most = omega (arith, inv .at-most);
           counted = count-in (isFirstOther v ms) i c (inv .counted) (c + 1) o refl;
@@ -84,13 +97,14 @@ module _ (v : ℕ) (ms found : List ℕ) (c i : ℕ) (inv : Picked v ms found c 
           );
         }
 
-  module _ (h : length ms ≤ i) where
-    pub picked-all : take c found ≡ others v ms
+  -- they are the members ks
+  module _ (h : length ms ≤ i) (ks : List ℕ) (e : ms ≡ ks) where
+    pub picked-all : take c found ≡ others v ks
     unfolding others
-    picked-all = inv .taken ∙ ap (λ (k : ℕ). map (memberAt ms) (chosen (isFirstOther v ms) k)) (le-antisymm (inv .within) h)
+    picked-all = inv .taken ∙ ap (λ (k : ℕ). map (memberAt ms) (chosen (isFirstOther v ms) k)) (le-antisymm (inv .within) h) ∙ ap (others v) e
 
-    pub picked-many : c ≡ length (others v ms)
-    picked-many = counted-all v ms c i (inv .counted) (inv .within) h
+    pub picked-many : c ≡ length (others v ks)
+    picked-many = counted-all v ms c i (inv .counted) (inv .within) h ∙ ap (λ (l : List ℕ). length (others v l)) e
 
 -- ---- the pick: n is their number
 
@@ -119,5 +133,7 @@ module _ (v state : ℕ) where
         let l : k < n = rw m (mod-lt draw (pos n q)) in
         rw (g, ← getD-take n found k 0 l, t, m, d, e) (some-left os (λ z. q (e ∙ z)))
 
-pub picked-below : (v : ℕ) (ms : List ℕ) → length ms ≤ vertexLimit → (n : ℕ) → n ≡ length (others v ms) → (n ≡ 0 → ⊥) → (draw : ℕ) → draw % n < vertexLimit
-picked-below v ms h n e q draw = omega (arith, mod-lt draw (pos n q), e, others-count v ms, count-le (isFirstOther v ms) (length ms))
+pub picked-below : (ws : List ℕ) → Formed limit ws → (v j : ℕ) → j < hyperedgeCount ws → (n : ℕ) → n ≡ length (others v (membersAt limit ws j)) → (n ≡ 0 → ⊥)
+    → (draw : ℕ) → draw % n < vertexLimit
+picked-below ws f v j h n e q draw =
+    omega (arith, mod-lt draw (pos n q), e, others-count v (membersAt limit ws j), count-le (isFirstOther v (membersAt limit ws j)) (length (membersAt limit ws j)), members-le limit ws f j h)

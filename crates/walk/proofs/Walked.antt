@@ -1,7 +1,8 @@
 -- Laws of a move and of the walk. Assumes nothing.
 use mathlib.Core.Path.{_≡_, refl, sym, ap, _∙_}
 use mathlib.Core.Bool.{true, false}
-use mathlib.Core.List.{List, [], _∷_, _++_, append-assoc, append-nil}
+use mathlib.Core.List.{List, [], _∷_, _++_, map, append-assoc, append-nil}
+use native.Mathlib.Nat.{suc-ne-zero}
 use Prim.Native.Nat.{ℕ, zero, suc, _+_, _-_, _≤_, _<_}
 use native.Mathlib.Omega.{arith}
 use lib.ListN.{length, getD, set, length-append, length-set}
@@ -15,39 +16,37 @@ use Rattle.layout.specs.declared.Found.{Found}
 use Rattle.layout.specs.declared.Found.the-variants.{At, Nothing}
 use Rattle.layout.specs.declared.Answer.the-variants.{Done, NoRoom}
 use Rattle.layout.specs.Content.{Hyperedge, Table, liveVertices, isLive, lists, hyperedgesOf, membersLive, valid, position}
-use Rattle.layout.specs.Layout.{limit, vertexLimit, vertexCount, membersAt, hyperedgeAt, readHyperedges, read}
+use Rattle.layout.specs.Layout.{limit, vertexCount, membersAt, hyperedgeAt, readHyperedges, read}
 use Rattle.layout.specs.WellFormed.{Formed}
 use Rattle.layout.specs.Answers.{Result, result, vertexMissing, listed}
 use Rattle.layout.proofs.Position.{position-found, missing-dead}
-use Rattle.layout.proofs.Read.{members-le, vertex-found}
+use Rattle.layout.proofs.Read.{vertex-found}
 use Rattle.layout.proofs.Answers.{on-missing, on-found, listed-over, listed-fits}
 use Rattle.steps.specs.Matrices.{numberOf}
 use Rattle.walk.specs.declared.Walker.{Walker}
 use Rattle.walk.specs.Walk.{xorshift, sample, totalWeight, lastOf, firstGreater, others, toOneOf, walker, moveAlong, move, walkFrom, stepLimit, cut, firstState, walk, walkResult}
-use Rattle.walk.specs.Passes.{listing, Ends, Drawn}
-use Rattle.walk.proofs.Listing.{listing-none, ends-with}
+use Rattle.walk.specs.Passes.{listersOf, recordsAt, Drawn}
+use Rattle.walk.proofs.Listing.{hyperedges-are}
 
 -- ---- a move
 
-last-snoc : (e : Hyperedge) (es : List Hyperedge) (z : Hyperedge) → lastOf e (es ++ (z ∷ [])) ≡ z
+last-at : (f : ℕ → Hyperedge) (j : ℕ) (js : List ℕ) → lastOf (f j) (map f js) ≡ f (getD (j ∷ js) (length js) 0)
 unfolding lastOf
-last-snoc e [] z = refl
-last-snoc e (d ∷ es) z = last-snoc d es z
+last-at f j [] = refl
+last-at f j (k ∷ js) = last-at f k js
 
--- along a list with a known last
-along : (w : Walker) (es : List Hyperedge) (z : Hyperedge) → moveAlong w (es ++ (z ∷ []))
-    ≡ toOneOf (w .at) (xorshift (w .state)) (others (w .at) (firstGreater (sample (xorshift (w .state)) (totalWeight (es ++ (z ∷ [])))) z 0 (es ++ (z ∷ [])) .members))
-unfolding moveAlong lastOf
-along w [] z = refl
-along w (e ∷ es) z = rw (last-snoc e es z)
+-- along the records at the places js, of which there is one
+along : (ws : List ℕ) (w : Walker) (js : List ℕ) → (length js ≡ 0 → ⊥) → moveAlong w (recordsAt ws js)
+    ≡ toOneOf (w .at) (xorshift (w .state)) (others (w .at) (firstGreater (sample (xorshift (w .state)) (totalWeight (recordsAt ws js))) (hyperedgeAt limit ws (getD js (length js - 1) 0)) 0 (recordsAt ws js) .members))
+unfolding moveAlong
+along ws w [] h = absurd (h refl)
+along ws w (j ∷ js) h =
+    let s : suc (length js) - 1 ≡ length js = omega arith in
+    rw (last-at (hyperedgeAt limit ws) j js, s)
 
-moved : (ws : List ℕ) (w : Walker) (n : ℕ) → Ends ws (w .at) n → (n ≡ 0 → ⊥) → (draw j : ℕ) → draw ≡ xorshift (w .state) → Drawn ws (w .at) n draw j
-    → (ms : List ℕ) → ms ≡ membersAt limit ws j → (r : Walker) → r ≡ toOneOf (w .at) draw (others (w .at) ms) → r ≡ move (read limit ws) w
-unfolding move
-moved ws w n e h draw j d g ms m r q =
-    let z : Hyperedge = hyperedgeAt limit ws (n - 1) in
-    let f : membersAt limit ws j ≡ firstGreater (sample draw (totalWeight (listing ws (w .at) n))) z 0 (listing ws (w .at) n) .members = ap (λ (e : Hyperedge). e .members) (g .taken) in
-    q ∙ rw (m, f, d, ends-with ws (w .at) n e h) (sym (along w (listing ws (w .at) (n - 1)) z)) ∙ ap (moveAlong w) (sym (ends-with ws (w .at) n e h) ∙ e .among)
+nowhere : (w : Walker) → w ≡ moveAlong w []
+unfolding moveAlong
+nowhere w = refl
 
 -- the walker stands at the vertex of record i
 module _ (ws : List ℕ) (w : Walker) (i : ℕ) (p : position (w .at) (liveVertices (read limit ws)) ≡ At i) where
@@ -57,14 +56,23 @@ module _ (ws : List ℕ) (w : Walker) (i : ℕ) (p : position (w .at) (liveVerti
   number-is : numberOf (read limit ws) i ≡ w .at
   number-is = position-found (w .at) (liveVertices (read limit ws)) i p .1
 
-  module _ (n : ℕ) (e : Ends ws (numberOf (read limit ws) i) n) where
-    pub move-none : n ≡ 0 → w ≡ move (read limit ws) w
-    unfolding move moveAlong
-    move-none q = rw (← number-is, ← e .among, q, listing-none ws (numberOf (read limit ws) i))
+  along-here : moveAlong w (recordsAt ws (listersOf ws i)) ≡ move (read limit ws) w
+  unfolding move
+  along-here = ap (moveAlong w) (hyperedges-are ws i ∙ ap (hyperedgesOf (read limit ws)) number-is)
 
-    pub move-one : (n ≡ 0 → ⊥) → (draw j : ℕ) → draw ≡ xorshift (w .state) → Drawn ws (numberOf (read limit ws) i) n draw j
-        → (ms : List ℕ) → ms ≡ membersAt limit ws j → (r : Walker) → r ≡ toOneOf (w .at) draw (others (w .at) ms) → r ≡ move (read limit ws) w
-    move-one h draw j d g ms m r q = moved ws w n (rw number-is at e) h draw j d (rw number-is at g) ms m r q
+  -- n of the records list it
+  module _ (n : ℕ) (e : n ≡ length (listersOf ws i)) where
+    pub move-none : n ≡ 0 → w ≡ move (read limit ws) w
+    move-none q = none (listersOf ws i) (sym e ∙ q) ∙ along-here
+      where
+        none : (js : List ℕ) → length js ≡ 0 → w ≡ moveAlong w (recordsAt ws js)
+        none [] z = nowhere w
+        none (j ∷ js) z = absurd (suc-ne-zero (length js) z)
+
+    pub move-one : (n ≡ 0 → ⊥) → (draw j : ℕ) → draw ≡ xorshift (w .state) → Drawn ws (listersOf ws i) draw j
+        → (r : Walker) → r ≡ toOneOf (w .at) draw (others (w .at) (membersAt limit ws j)) → r ≡ move (read limit ws) w
+    move-one h draw j d g r q =
+        q ∙ rw (ap (λ (e : Hyperedge). e .members) (g .taken), d) (sym (along ws w (listersOf ws i) (λ z. h (e ∙ z)))) ∙ along-here
 
 member-live : (live : List ℕ) (e : Hyperedge) (i : ℕ) → membersLive live e ≡ true → i < length (e .members) → isLive live (getD (e .members) i 0) ≡ true
 unfolding membersLive
@@ -78,10 +86,6 @@ unlisted live v d (e ∷ es) h =
     on (lists v e)
     (λ q. let k = memb-at v (e .members) q in clash (rw (k .2) at (member-live live e (k .0) (and-left _ _ h) (k .1))) d)
     (λ q. rw q (unlisted live v d es (and-right _ _ h)))
-
--- ms is what `members_formed` found of record j
-pub members-few : (ws : List ℕ) → Formed limit ws → (v n draw j : ℕ) (ms : List ℕ) → Ends ws v n → Drawn ws v n draw j → ms ≡ membersAt limit ws j → length ms ≤ vertexLimit
-members-few ws f v n draw j ms w d e = omega (arith, ap length e, members-le limit ws f j (omega (arith, w .within, d .within)))
 
 -- p is what `find_vertex` returned
 module _ (ws : List ℕ) (w : Walker) (p : Found) (e : p ≡ position (w .at) (liveVertices (read limit ws))) where

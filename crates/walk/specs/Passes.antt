@@ -1,61 +1,87 @@
 -- What the passes over the records find. Assumes nothing.
 use mathlib.Core.Path.{_≡_}
-use mathlib.Core.Bool.{Bool, true, false, cond}
-use mathlib.Core.List.{List, [], _∷_}
-use Prim.Native.Nat.{ℕ, zero, suc, _-_, _≤_, _<_}
-use lib.Dec.{ltb}
+use mathlib.Core.Bool.{Bool, false, not, cond}
+use mathlib.Core.List.{List, [], _∷_, _++_, map}
+use Prim.Native.Nat.{ℕ, _-_, _*_, _≤_, _<_}
 use lib.Ieee.{Float}
-use lib.ListN.{getD, set}
-use Rattle.lists.specs.Tests.{_and_}
-use Rattle.lists.specs.Lists.{tab, filter, memb}
-use Rattle.layout.specs.declared.Found.{Found}
-use Rattle.layout.specs.declared.Found.the-variants.{At, Nothing}
-use Rattle.layout.specs.Content.{Hyperedge, lists, hyperedgesOf}
+use lib.ListN.{length, getD, take}
+use Rattle.lists.specs.Tests.{chosen}
+use Rattle.lists.specs.Lists.{memb}
+use Rattle.layout.specs.Content.{Hyperedge}
 use Rattle.layout.specs.Layout.{limit, vertexLimit, vertexCount, hyperedgeCount, membersAt, hyperedgeAt, read}
-use Rattle.steps.specs.Matrices.{numberOf, cell, Holds}
+use Rattle.steps.specs.Matrices.{numberOf, cell}
 use Rattle.walk.specs.Walk.{sample, totalWeight, firstGreater}
 
 -- no weight is greater
 abbrev pub largestWord : ℕ
 largestWord = 4294967295
 
+-- ---- the first places of the members
+
+-- what stands at place p stands at no place before
+unfoldable pub isFirst : List ℕ → ℕ → Bool
+isFirst ms p = not (memb (getD ms p 0) (take p ms))
+
+-- the marks say which places are first ones: all places of the first k records, and the first p places of record k
+pub record Judged (ws : List ℕ) (k p : ℕ) (firsts : List Bool) : Type 0 where
+  pub sized : length firsts ≡ vertexLimit * vertexLimit
+  pub before : (j q : ℕ) → j < k → q < length (membersAt limit ws j) → getD firsts (cell j q) false ≡ isFirst (membersAt limit ws j) q
+  pub here : (q : ℕ) → q < p → getD firsts (cell k q) false ≡ isFirst (membersAt limit ws k) q
+
+-- all places of all records are marked so
+abbrev pub Firsts : List ℕ → List Bool → Type 0
+Firsts ws firsts = Judged ws (hyperedgeCount ws) 0 firsts
+
+-- ---- the records that list a vertex
+
 -- record j lists v
 abbrev pub listsAt : List ℕ → ℕ → ℕ → Bool
 listsAt ws v j = memb v (membersAt limit ws j)
 
--- one mark more: of hyperedge record j, at the vertex record that a search found
-abbrev pub entered : Found → ℕ → List ℕ → List ℕ
-entered (At i) j m = set m (cell i j) 1
-entered Nothing j m = m
+-- the places of those of the first k records that list the vertex of record i, ascending
+unfoldable pub listers : List ℕ → ℕ → ℕ → List ℕ
+listers ws k i = chosen (listsAt ws (numberOf (read limit ws) i)) k
 
--- record j is one of the first k, and lists the vertex of record i
-unfoldable pub listedBy : List ℕ → ℕ → ℕ → ℕ → Bool
-listedBy ws k i j = ltb i (vertexCount ws) and ltb j k and listsAt ws (numberOf (read limit ws) i) j
+-- the same with record k, where the vertex is among its first p members
+unfoldable pub entering : List ℕ → ℕ → ℕ → ℕ → List ℕ
+entering ws k p i = cond (memb (numberOf (read limit ws) i) (take p (membersAt limit ws k))) (listers ws k i ++ (k ∷ [])) (listers ws k i)
 
--- the matrix marks which record lists which vertex
-abbrev pub Members : List ℕ → List ℕ → Type 0
-Members ws m = Holds (listedBy ws (hyperedgeCount ws)) vertexLimit m
+-- row i, of the first n, begins with the numbers R i, as many as its count says
+pub record Rows (n : ℕ) (R : ℕ → List ℕ) (rows counts : List ℕ) : Type 0 where
+  pub sized : length rows ≡ vertexLimit * vertexLimit
+  pub counted : length counts ≡ vertexLimit
+  pub fits : (i : ℕ) → i < n → length (R i) ≤ vertexLimit
+  pub many : (i : ℕ) → i < n → getD counts i 0 ≡ length (R i)
+  pub entry : (i q : ℕ) → i < n → q < length (R i) → getD rows (cell i q) 0 ≡ getD (R i) q 0
 
--- those of the first n records that list v
-unfoldable pub listing : List ℕ → ℕ → ℕ → List Hyperedge
-listing ws v n = filter (lists v) (tab (hyperedgeAt limit ws) n)
+-- the rows while the first p members of record k are entered
+abbrev pub Entering : List ℕ → ℕ → ℕ → List ℕ → List ℕ → Type 0
+Entering ws k p = Rows (vertexCount ws) (entering ws k p)
 
--- the hyperedges of v are among the first n records, and the last of them is record n - 1
-pub record Ends (ws : List ℕ) (v n : ℕ) : Type 0 where
-  pub within : n ≤ hyperedgeCount ws
-  pub among : listing ws v n ≡ hyperedgesOf (read limit ws) v
-  pub lists-last : (k : ℕ) → n ≡ suc k → listsAt ws v k ≡ true
+-- the rows where the first k records are entered
+abbrev pub Listers : List ℕ → ℕ → List ℕ → List ℕ → Type 0
+Listers ws k = Rows (vertexCount ws) (listers ws k)
 
--- the marked ones of the k records from j on
-unfoldable pub markedFrom : List ℕ → List Bool → ℕ → ℕ → List Hyperedge
-markedFrom ws marks j zero = []
-markedFrom ws marks j (suc k) = cond (getD marks j false) (hyperedgeAt limit ws j ∷ markedFrom ws marks (suc j) k) (markedFrom ws marks (suc j) k)
+-- the places of all records that list the vertex of record i
+abbrev pub listersOf : List ℕ → ℕ → List ℕ
+listersOf ws i = listers ws (hyperedgeCount ws) i
 
--- record j is the first of es whose running sum is greater than x, else the last of the first n
-pub record Greater (ws : List ℕ) (es : List Hyperedge) (n : ℕ) (x : Float) (j : ℕ) : Type 0 where
-  pub within : j < n
-  pub taken : hyperedgeAt limit ws j ≡ firstGreater x (hyperedgeAt limit ws (n - 1)) 0 es
+-- what a walk goes by: the first places, and the rows of the records that list each vertex
+pub record Laid (ws : List ℕ) (firsts : List Bool) (rows counts : List ℕ) : Type 0 where
+  pub first : Firsts ws firsts
+  pub listed : Listers ws (hyperedgeCount ws) rows counts
 
--- record j is what the draw takes of those of the first n that list v
-abbrev pub Drawn : List ℕ → ℕ → ℕ → ℕ → ℕ → Type 0
-Drawn ws v n draw j = Greater ws (listing ws v n) n (sample draw (totalWeight (listing ws v n))) j
+-- ---- the draw among the records at the places js
+
+-- the records themselves
+abbrev pub recordsAt : List ℕ → List ℕ → List Hyperedge
+recordsAt ws js = map (hyperedgeAt limit ws) js
+
+-- record j is the first of them whose running sum is greater than x, else the last
+pub record Greater (ws js : List ℕ) (x : Float) (j : ℕ) : Type 0 where
+  pub within : j < hyperedgeCount ws
+  pub taken : hyperedgeAt limit ws j ≡ firstGreater x (hyperedgeAt limit ws (getD js (length js - 1) 0)) 0 (recordsAt ws js)
+
+-- record j is what the draw takes of them
+abbrev pub Drawn : List ℕ → List ℕ → ℕ → ℕ → Type 0
+Drawn ws js draw j = Greater ws js (sample draw (totalWeight (recordsAt ws js))) j

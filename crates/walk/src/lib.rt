@@ -1,19 +1,17 @@
 // The random walk.
 ghost use mathlib.Core.Path.{_≡_};
-ghost use mathlib.Core.Bool.{cond};
 ghost use Prim.Native.Nat.{_<_, _≤_, _^_};
 ghost use lib.Ieee.{lt};
 ghost use lib.ListN.{length, getD, take};
-ghost use Rattle.lists.specs.Tests.{_and_};
-ghost use Rattle.lists.specs.Lists.{memb, over};
+ghost use Rattle.lists.specs.Lists.{over};
 ghost use Rattle.layout.specs.Content.{liveVertices, position};
-ghost use Rattle.layout.specs.Layout.{limit, vertexLimit, vertexCount, hyperedgeCount, read};
+ghost use Rattle.layout.specs.Layout.{limit, vertexLimit, vertexCount, hyperedgeCount, membersAt, read};
 ghost use Rattle.layout.specs.WellFormed.{Formed};
 ghost use Rattle.layout.specs.Answers.{result, listed, onFormed};
-ghost use Rattle.steps.specs.Matrices.{numberOf};
 ghost use Rattle.walk.specs.Walk.{xorshift, float, sample, totalWeight, isFirstOther, others, toOneOf, move, walkFrom, stepLimit, cut, firstState, walk, walkResult};
-ghost use Rattle.walk.specs.Passes.{largestWord, Members, markedFrom, listing, Ends, Greater, Drawn};
+ghost use Rattle.walk.specs.Passes.{largestWord, Firsts, Listers, Laid, listersOf, recordsAt, Greater, Drawn};
 
+mod firsts;
 mod membership;
 
 use layout::Answer;
@@ -56,35 +54,19 @@ fn sample(draw: u64, total: u64) -> f64
 
 // ---- the hyperedge
 
-// How many records there are up to the last that lists the vertex of record i.
-fn listing_end(t: &[u32], m: &[u8; 65536], i: usize) -> usize
-    requires { ⌜ Formed limit (now t) ⌝ }
-    requires { ⌜ (i < vertexCount (now t)) × Members (now t) (now m) ⌝ }
-    ensures { λ r. ⌜ Ends (now (t .entry)) (numberOf (read limit (now (t .entry))) i) r ⌝ }
+fn place_of(b: u8) -> usize
+    ensures { λ r. ⌜ r ≡ b ⌝ }
 {
-    let mut n = layout::hyperedge_count(t);
-    while 0 < n {
-        if m[i * layout::VERTEX_LIMIT + (n - 1)] == 1 {
-            return n;
-        }
-        n -= 1;
-    }
-    0
+    b as usize
 }
 
-// Marks those of the first n records that list the vertex of record i. There are fewer records than marks.
-fn mark_listing(t: &[u32], m: &[u8; 65536], i: usize, n: usize) -> [bool; 256]
+// The place of the k-th record that lists the vertex of record i.
+fn lister(t: &[u32], rows: &[u8; 65536], counts: &[usize; 256], i: usize, k: usize) -> usize
     requires { ⌜ Formed limit (now t) ⌝ }
-    requires { ⌜ (i < vertexCount (now t)) × (n ≤ hyperedgeCount (now t)) × Members (now t) (now m) ⌝ }
-    ensures { λ r. ⌜ markedFrom (now (t .entry)) r 0 n ≡ listing (now (t .entry)) (numberOf (read limit (now (t .entry))) i) n ⌝ }
+    requires { ⌜ (i < vertexCount (now t)) × (k < length (listersOf (now t) i)) × Listers (now t) (hyperedgeCount (now t)) (now rows) (now counts) ⌝ }
+    ensures { λ r. ⌜ (r ≡ getD (listersOf (now (t .entry)) i) k 0) × (r < hyperedgeCount (now (t .entry))) ⌝ }
 {
-    let mut marks = [false; 256];
-    let mut j = 0;
-    while j < n {
-        marks[j] = m[i * layout::VERTEX_LIMIT + j] == 1;
-        j += 1;
-    }
-    marks
+    place_of(rows[i * layout::VERTEX_LIMIT + k])
 }
 
 fn wide(x: u32) -> u64
@@ -93,101 +75,87 @@ fn wide(x: u32) -> u64
     x as u64
 }
 
-// The weight of a record that is marked, else 0.
-fn counting(marked: bool, weight: u32) -> u64
-    ensures { λ r. ⌜ (r ≡ cond marked weight 0) × (r ≤ largestWord) ⌝ }
-{
-    if marked {
-        return wide(weight);
-    }
-    0
-}
-
-// The total weight of the marked ones of the first n records.
-fn total_weight(t: &[u32], marks: &[bool; 256], n: usize) -> u64
+// The total weight of the n records that list the vertex of record i.
+fn total_weight(t: &[u32], rows: &[u8; 65536], counts: &[usize; 256], i: usize, n: usize) -> u64
     requires { ⌜ Formed limit (now t) ⌝ }
-    requires { ⌜ n ≤ hyperedgeCount (now t) ⌝ }
-    ensures { λ r. ⌜ (r ≡ totalWeight (markedFrom (now (t .entry)) (now (marks .entry)) 0 n)) × (r ≤ 2 ^ 53) ⌝ }
+    requires { ⌜ (i < vertexCount (now t)) × (n ≡ length (listersOf (now t) i)) × Listers (now t) (hyperedgeCount (now t)) (now rows) (now counts) ⌝ }
+    ensures { λ r. ⌜ (r ≡ totalWeight (recordsAt (now (t .entry)) (listersOf (now (t .entry)) i))) × (r ≤ 2 ^ 53) ⌝ }
 {
     let mut total = 0;
-    let mut j = 0;
-    while j < n {
-        total += counting(marks[j], layout::hyperedge_weight(t, j));
-        j += 1;
+    let mut k = 0;
+    while k < n {
+        let j = lister(t, rows, counts, i, k);
+        total += wide(layout::hyperedge_weight(t, j));
+        k += 1;
     }
     total
 }
 
-// Whether a record is marked and its running sum is greater than x.
-fn greater(marked: bool, x: f64, sum: u64) -> bool
+// Whether a running sum is greater than x.
+fn greater(x: f64, sum: u64) -> bool
     requires { ⌜ sum ≤ 2 ^ 53 ⌝ }
-    ensures { λ r. ⌜ r ≡ (marked and lt x (float sum)) ⌝ }
+    ensures { λ r. ⌜ r ≡ lt x (float sum) ⌝ }
 {
-    marked & (x < exact(sum))
+    x < exact(sum)
 }
 
-// The first marked one of the first n records whose running sum is greater than x, else record n - 1.
-fn first_greater(t: &[u32], marks: &[bool; 256], n: usize, x: f64) -> usize
+// The first of the n records that list the vertex of record i whose running sum is greater than x, else the last.
+fn first_greater(
+    t: &[u32],
+    rows: &[u8; 65536],
+    counts: &[usize; 256],
+    i: usize,
+    n: usize,
+    x: f64,
+) -> usize
     requires { ⌜ Formed limit (now t) ⌝ }
-    requires { ⌜ (0 < n) × (n ≤ hyperedgeCount (now t)) ⌝ }
-    ensures { λ r. ⌜ Greater (now (t .entry)) (markedFrom (now (t .entry)) (now (marks .entry)) 0 n) n x r ⌝ }
+    requires { ⌜ (i < vertexCount (now t)) × (0 < n) × (n ≡ length (listersOf (now t) i)) × Listers (now t) (hyperedgeCount (now t)) (now rows) (now counts) ⌝ }
+    ensures { λ r. ⌜ Greater (now (t .entry)) (listersOf (now (t .entry)) i) x r ⌝ }
 {
     let mut sum = 0;
-    let mut j = 0;
-    while j < n {
-        sum += counting(marks[j], layout::hyperedge_weight(t, j));
-        if greater(marks[j], x, sum) {
+    let mut k = 0;
+    while k < n {
+        let j = lister(t, rows, counts, i, k);
+        sum += wide(layout::hyperedge_weight(t, j));
+        if greater(x, sum) {
             return j;
         }
-        j += 1;
+        k += 1;
     }
-    n - 1
+    lister(t, rows, counts, i, n - 1)
 }
 
 // ---- the member
 
-// Whether v stands in the list. No word is skipped, so that the compiler can take several at a time.
-fn lists_vertex(ms: &[u32], v: u32) -> bool
-    ensures { λ r. ⌜ r ≡ memb v (now (ms .entry)) ⌝ }
+// Whether what stands at place p of record j's members is not v, and stands at no place before.
+fn is_first_other(t: &[u32], firsts: &[bool; 65536], j: usize, ms: &[u32], v: u32, p: usize) -> bool
+    requires { ⌜ Formed limit (now t) ⌝ }
+    requires { ⌜ (j < hyperedgeCount (now t)) × (p < length (now ms)) × (now ms ≡ membersAt limit (now t) j) × Firsts (now t) (now firsts) ⌝ }
+    ensures { λ r. ⌜ r ≡ isFirstOther v (now (ms .entry)) p ⌝ }
 {
-    let mut found = false;
-    let mut i = 0;
-    while i < ms.len() {
-        if ms[i] == v {
-            found = true;
-        }
-        i += 1;
-    }
-    found
-}
-
-// Whether what stands at place i is not v, and stands at no place before.
-fn is_first_other(ms: &[u32], v: u32, i: usize) -> bool
-    requires { ⌜ i < length (now ms) ⌝ }
-    ensures { λ r. ⌜ r ≡ isFirstOther v (now (ms .entry)) i ⌝ }
-{
-    let x = ms[i];
-    if x == v {
+    if ms[p] == v {
         return false;
     }
-    !lists_vertex(&ms[..i], x)
+    firsts[j * layout::VERTEX_LIMIT + p]
 }
 
-// The distinct other members, in order of first place, in the first places of `found`.
-fn list_others(ms: &[u32], v: u32, found: &mut [u32; 256]) -> usize
-    requires { ⌜ (length (now ms) ≤ vertexLimit) × (length (now found) ≡ vertexLimit) ⌝ }
-    ensures { λ r. ⌜ (take r (now (found .exit)) ≡ others v (now (ms .entry))) × (r ≡ length (others v (now (ms .entry)))) ⌝ }
+// The distinct other members of record j, in order of first place, in the first places of `found`.
+fn list_others(t: &[u32], firsts: &[bool; 65536], j: usize, v: u32, found: &mut [u32; 256]) -> usize
+    requires { ⌜ Formed limit (now t) ⌝ }
+    requires { ⌜ (j < hyperedgeCount (now t)) × (length (now found) ≡ vertexLimit) × Firsts (now t) (now firsts) ⌝ }
+    ensures { λ r. ⌜ (take r (now (found .exit)) ≡ others v (membersAt limit (now (t .entry)) j)) × (r ≡ length (others v (membersAt limit (now (t .entry)) j))) ⌝ }
 {
+    let ms = layout::members_formed(t, j);
     let mut c = 0;
-    let mut i = 0;
-    while i < ms.len() {
-        if !is_first_other(ms, v, i) {
-            i += 1;
+    let mut p = 0;
+    while p < ms.len() {
+        if !is_first_other(t, firsts, j, ms, v, p) {
+            p += 1;
             continue;
         }
-        found[c] = ms[i];
+        found[c] = ms[p];
         c += 1;
-        i += 1;
+        p += 1;
     }
     c
 }
@@ -199,13 +167,14 @@ fn pick(found: &[u32; 256], k: usize) -> u32
     found[k]
 }
 
-// To a distinct other member by a second draw; v stays where there is none.
-fn to_one_of(ms: &[u32], v: u32, state: u64) -> Walker
-    requires { ⌜ length (now ms) ≤ vertexLimit ⌝ }
-    ensures { λ r. ⌜ r ≡ toOneOf v state (others v (now (ms .entry))) ⌝ }
+// To a distinct other member of record j by a second draw; v stays where there is none.
+fn to_one_of(t: &[u32], firsts: &[bool; 65536], j: usize, v: u32, state: u64) -> Walker
+    requires { ⌜ Formed limit (now t) ⌝ }
+    requires { ⌜ (j < hyperedgeCount (now t)) × Firsts (now t) (now firsts) ⌝ }
+    ensures { λ r. ⌜ r ≡ toOneOf v state (others v (membersAt limit (now (t .entry)) j)) ⌝ }
 {
     let mut found = [0u32; 256];
-    let n = list_others(ms, v, &mut found);
+    let n = list_others(t, firsts, j, v, &mut found);
     if n == 0 {
         return Walker { at: v, state };
     }
@@ -219,48 +188,84 @@ fn to_one_of(ms: &[u32], v: u32, state: u64) -> Walker
 
 // ---- the walk
 
-// The place of the hyperedge that the draw takes, of those of the first n records that list the vertex of record i.
-fn drawn_hyperedge(t: &[u32], m: &[u8; 65536], i: usize, n: usize, draw: u64) -> usize
+// The place of the hyperedge that the draw takes, of the n that list the vertex of record i.
+fn drawn_hyperedge(
+    t: &[u32],
+    rows: &[u8; 65536],
+    counts: &[usize; 256],
+    i: usize,
+    n: usize,
+    draw: u64,
+) -> usize
     requires { ⌜ Formed limit (now t) ⌝ }
-    requires { ⌜ (i < vertexCount (now t)) × (0 < n) × (n ≤ hyperedgeCount (now t)) × Members (now t) (now m) ⌝ }
-    ensures { λ r. ⌜ Drawn (now (t .entry)) (numberOf (read limit (now (t .entry))) i) n draw r ⌝ }
+    requires { ⌜ (i < vertexCount (now t)) × (0 < n) × (n ≡ length (listersOf (now t) i)) × Listers (now t) (hyperedgeCount (now t)) (now rows) (now counts) ⌝ }
+    ensures { λ r. ⌜ Drawn (now (t .entry)) (listersOf (now (t .entry)) i) draw r ⌝ }
 {
-    let marks = mark_listing(t, m, i, n);
-    let total = total_weight(t, &marks, n);
-    first_greater(t, &marks, n, sample(draw, total))
+    let total = total_weight(t, rows, counts, i, n);
+    first_greater(t, rows, counts, i, n, sample(draw, total))
+}
+
+// How many records list the vertex of record i.
+fn lister_count(t: &[u32], rows: &[u8; 65536], counts: &[usize; 256], i: usize) -> usize
+    requires { ⌜ Formed limit (now t) ⌝ }
+    requires { ⌜ (i < vertexCount (now t)) × Listers (now t) (hyperedgeCount (now t)) (now rows) (now counts) ⌝ }
+    ensures { λ r. ⌜ r ≡ length (listersOf (now (t .entry)) i) ⌝ }
+{
+    counts[i]
 }
 
 // A step of a walker that stands at the vertex of record i.
-fn step_from(t: &[u32], m: &[u8; 65536], i: usize, w: Walker) -> Walker
+fn step_from(
+    t: &[u32],
+    firsts: &[bool; 65536],
+    rows: &[u8; 65536],
+    counts: &[usize; 256],
+    i: usize,
+    w: Walker,
+) -> Walker
     requires { ⌜ Formed limit (now t) ⌝ }
-    requires { ⌜ (position (w .at) (liveVertices (read limit (now t))) ≡ Found.At i) × Members (now t) (now m) ⌝ }
+    requires { ⌜ (position (w .at) (liveVertices (read limit (now t))) ≡ Found.At i) × Laid (now t) (now firsts) (now rows) (now counts) ⌝ }
     ensures { λ r. ⌜ r ≡ move (read limit (now (t .entry))) w ⌝ }
 {
-    let n = listing_end(t, m, i);
+    let n = lister_count(t, rows, counts, i);
     if n == 0 {
         return w;
     }
     let draw = xorshift(w.state);
-    let j = drawn_hyperedge(t, m, i, n, draw);
-    to_one_of(layout::members_formed(t, j), w.at, draw)
+    let j = drawn_hyperedge(t, rows, counts, i, n, draw);
+    to_one_of(t, firsts, j, w.at, draw)
 }
 
-fn step(t: &[u32], m: &[u8; 65536], w: Walker) -> Walker
+fn step(
+    t: &[u32],
+    firsts: &[bool; 65536],
+    rows: &[u8; 65536],
+    counts: &[usize; 256],
+    w: Walker,
+) -> Walker
     requires { ⌜ Formed limit (now t) ⌝ }
-    requires { ⌜ Members (now t) (now m) ⌝ }
+    requires { ⌜ Laid (now t) (now firsts) (now rows) (now counts) ⌝ }
     ensures { λ r. ⌜ r ≡ move (read limit (now (t .entry))) w ⌝ }
 {
     let f = layout::find_vertex(t, VertexIndex(w.at));
     match f {
         Found::Nothing => w,
-        Found::At(i) => step_from(t, m, i, w),
+        Found::At(i) => step_from(t, firsts, rows, counts, i, w),
     }
 }
 
 // Writes the first n vertices from w on.
-fn write_walk(t: &[u32], m: &[u8; 65536], w: Walker, n: usize, out: &mut [u32])
+fn write_walk(
+    t: &[u32],
+    firsts: &[bool; 65536],
+    rows: &[u8; 65536],
+    counts: &[usize; 256],
+    w: Walker,
+    n: usize,
+    out: &mut [u32],
+)
     requires { ⌜ Formed limit (now t) ⌝ }
-    requires { ⌜ (n ≤ length (now out)) × Members (now t) (now m) ⌝ }
+    requires { ⌜ (n ≤ length (now out)) × Laid (now t) (now firsts) (now rows) (now counts) ⌝ }
     ensures { λ _. ⌜ now (out .exit) ≡ over (walkFrom (read limit (now (t .entry))) w n) (now (out .entry)) ⌝ }
 {
     let mut at = w.at;
@@ -268,7 +273,7 @@ fn write_walk(t: &[u32], m: &[u8; 65536], w: Walker, n: usize, out: &mut [u32])
     let mut i = 0;
     while i < n {
         out[i] = at;
-        let next = step(t, m, Walker { at, state });
+        let next = step(t, firsts, rows, counts, Walker { at, state });
         at = next.at;
         state = next.state;
         i += 1;
@@ -293,6 +298,20 @@ fn first_state(seed: u64) -> u64
     seed
 }
 
+// The same with the passes over the records before it, which are made once.
+fn lay_out_and_write(t: &[u32], w: Walker, n: usize, out: &mut [u32])
+    requires { ⌜ Formed limit (now t) ⌝ }
+    requires { ⌜ n ≤ length (now out) ⌝ }
+    ensures { λ _. ⌜ now (out .exit) ≡ over (walkFrom (read limit (now (t .entry))) w n) (now (out .entry)) ⌝ }
+{
+    let mut firsts = [false; 65536];
+    firsts::first_places(t, &mut firsts);
+    let mut rows = [0u8; 65536];
+    let mut counts = [0usize; 256];
+    membership::list_members(t, &firsts, &mut rows, &mut counts);
+    write_walk(t, &firsts, &rows, &counts, w, n, out);
+}
+
 fn list_walk(t: &[u32], start: u32, steps: usize, seed: u64, out: &mut [u32]) -> Answer
     requires { ⌜ Formed limit (now t) ⌝ }
     ensures { λ r. ⌜ result r (now (out .exit)) ≡ listed (walk (read limit (now (t .entry))) start steps seed) (now (out .entry)) ⌝ }
@@ -301,10 +320,11 @@ fn list_walk(t: &[u32], start: u32, steps: usize, seed: u64, out: &mut [u32]) ->
     if out.len() < n {
         return Answer::NoRoom(n);
     }
-    let mut m = [0u8; 65536];
-    membership::member_matrix(t, &mut m);
-    let state = first_state(seed);
-    write_walk(t, &m, Walker { at: start, state }, n, out);
+    let w = Walker {
+        at: start,
+        state: first_state(seed),
+    };
+    lay_out_and_write(t, w, n, out);
     Answer::Done(n)
 }
 

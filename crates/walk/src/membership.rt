@@ -1,61 +1,89 @@
-// Which records list a vertex: a mark for each vertex record and each hyperedge record.
+// Which records list a vertex: for each vertex record, how many do, and a row of their places, ascending.
 ghost use mathlib.Core.Path.{_≡_};
 ghost use Prim.Native.Nat.{_<_, _+_};
-ghost use lib.ListN.{set};
-ghost use Rattle.layout.specs.Content.{liveVertices, position};
-ghost use Rattle.layout.specs.Layout.{limit, vertexLimit, hyperedgeCount, read};
+ghost use lib.ListN.{length, getD, set};
+ghost use Rattle.layout.specs.Layout.{limit, vertexLimit, hyperedgeCount, membersAt};
 ghost use Rattle.layout.specs.WellFormed.{Formed};
-ghost use Rattle.steps.specs.Matrices.{cell, Holds};
-ghost use Rattle.walk.specs.Passes.{entered, listedBy, Members};
+ghost use Rattle.steps.specs.Matrices.{cell};
+ghost use Rattle.walk.specs.Passes.{Firsts, Entering, Listers};
 use layout::Found;
 use layout::VertexIndex;
 
-// One mark: hyperedge record j lists the vertex of record i.
-fn put(i: usize, j: usize, m: &mut [u8; 65536])
+// One place more in row i.
+fn append(i: usize, j: usize, rows: &mut [u8; 65536], counts: &mut [usize; 256])
     requires { ⌜ (i < vertexLimit) × (j < vertexLimit) ⌝ }
-    ensures { λ _. ⌜ now (m .exit) ≡ set (now (m .entry)) (cell i j) 1 ⌝ }
+    requires { ⌜ getD (now counts) i 0 < vertexLimit ⌝ }
+    ensures { λ _. ⌜ (now (rows .exit) ≡ set (now (rows .entry)) (cell i (getD (now (counts .entry)) i 0)) j) × (now (counts .exit) ≡ set (now (counts .entry)) i (getD (now (counts .entry)) i 0 + 1)) ⌝ }
 {
-    m[i * layout::VERTEX_LIMIT + j] = 1;
+    let c = counts[i];
+    rows[i * layout::VERTEX_LIMIT + c] = j as u8;
+    counts[i] = c + 1;
 }
 
-// Hyperedge record j lists x.
-fn enter(t: &[u32], x: u32, j: usize, m: &mut [u8; 65536])
+// Record j goes to the row of its member x at place p, where that is a first place.
+fn enter(
+    t: &[u32],
+    firsts: &[bool; 65536],
+    x: u32,
+    j: usize,
+    p: usize,
+    rows: &mut [u8; 65536],
+    counts: &mut [usize; 256],
+)
     requires { ⌜ Formed limit (now t) ⌝ }
-    requires { ⌜ j < hyperedgeCount (now t) ⌝ }
-    ensures { λ _. ⌜ now (m .exit) ≡ entered (position x (liveVertices (read limit (now (t .entry))))) j (now (m .entry)) ⌝ }
+    requires { ⌜ (j < hyperedgeCount (now t)) × (p < length (membersAt limit (now t) j)) × (x ≡ getD (membersAt limit (now t) j) p 0) × Firsts (now t) (now firsts) ⌝ }
+    requires { ⌜ Entering (now t) j p (now rows) (now counts) ⌝ }
+    ensures { λ _. ⌜ Entering (now (t .entry)) j (p + 1) (now (rows .exit)) (now (counts .exit)) ⌝ }
 {
+    if !firsts[j * layout::VERTEX_LIMIT + p] {
+        return;
+    }
     let f = layout::find_vertex(t, VertexIndex(x));
     match f {
         Found::Nothing => {}
-        Found::At(i) => put(i, j, m),
+        Found::At(i) => append(i, j, rows, counts),
     }
 }
 
-// The members of hyperedge record j.
-fn enter_record(t: &[u32], j: usize, m: &mut [u8; 65536])
+// Record j goes to the rows of its members.
+fn enter_record(
+    t: &[u32],
+    firsts: &[bool; 65536],
+    j: usize,
+    rows: &mut [u8; 65536],
+    counts: &mut [usize; 256],
+)
     requires { ⌜ Formed limit (now t) ⌝ }
-    requires { ⌜ (j < hyperedgeCount (now t)) × Holds (listedBy (now t) j) vertexLimit (now m) ⌝ }
-    ensures { λ _. ⌜ Holds (listedBy (now (t .entry)) (j + 1)) vertexLimit (now (m .exit)) ⌝ }
+    requires { ⌜ (j < hyperedgeCount (now t)) × Firsts (now t) (now firsts) × Listers (now t) j (now rows) (now counts) ⌝ }
+    ensures { λ _. ⌜ Listers (now (t .entry)) (j + 1) (now (rows .exit)) (now (counts .exit)) ⌝ }
 {
     let ms = layout::members_formed(t, j);
     let mut p = 0;
     while p < ms.len() {
-        enter(t, ms[p], j, m);
+        enter(t, firsts, ms[p], j, p, rows, counts);
         p += 1;
     }
 }
 
-// The members of every hyperedge record.
-pub fn member_matrix(t: &[u32], m: &mut [u8; 65536])
+// Every record goes to the rows of its members.
+pub fn list_members(
+    t: &[u32],
+    firsts: &[bool; 65536],
+    rows: &mut [u8; 65536],
+    counts: &mut [usize; 256],
+)
     requires { ⌜ Formed limit (now t) ⌝ }
-    ensures { λ _. ⌜ Members (now (t .entry)) (now (m .exit)) ⌝ }
+    requires { ⌜ Firsts (now t) (now firsts) ⌝ }
+    ensures { λ _. ⌜ Listers (now (t .entry)) (hyperedgeCount (now (t .entry))) (now (rows .exit)) (now (counts .exit)) ⌝ }
 {
     let blank = [0u8; 65536];
-    *m = blank;
+    *rows = blank;
+    let none = [0usize; 256];
+    *counts = none;
     let k = layout::hyperedge_count(t);
     let mut j = 0;
     while j < k {
-        enter_record(t, j, m);
+        enter_record(t, firsts, j, rows, counts);
         j += 1;
     }
 }

@@ -11,7 +11,7 @@ use Rattle.distance.proofs.best_walk.Tie as tie
 dijkstra-requires : tie.Need-dijkstra-requires
 dijkstra-requires c κs =
     let s = c .before .before in
-    (s .pre .0, s .pre .2, refl, refl, λ v l. getD-replicate {A = ℕ} 256 v 0 0 (omega (arith, s .pre .0)))
+    (s .pre .0, s .pre .2, refl, refl, λ v l. getD-replicate {A = ℕ} 256 v 0 0 (omega (arith, s .pre .0)), s .pre .4, s .pre .5)
 
 array-read-if1 : tie.Need-array-read-if1
 array-read-if1 c = search needs
@@ -22,11 +22,11 @@ returns c = search pair-no
 descend-requires : tie.Need-descend-requires
 descend-requires c κs = search needs
 
-mul-t20 : tie.Need-mul-t20
-mul-t20 c = search needs
+mul-t22 : tie.Need-mul-t22
+mul-t22 c = search needs
 
-array-read-t23 : tie.Need-array-read-t23
-array-read-t23 c = search needs
+array-read-t25 : tie.Need-array-read-t25
+array-read-t25 c = search needs
 
 returns-2 : tie.Need-returns-2
 returns-2 c = search pair-yes
@@ -39,6 +39,6 @@ best-walk-spec =
     array-read-if1
     returns
     descend-requires
-    mul-t20
-    array-read-t23
+    mul-t22
+    array-read-t25
     returns-2)

@@ -13,10 +13,10 @@ use Rattle.formed.proofs.all_members_live.Statement.{statement}
 use Rattle.formed.proofs.all_members_live.Tie as tie
 
 abbrev Inv-loop : tie.InvT-loop
-Inv-loop t n m numbers j₀ j = (j ≤ m) × (every (recordLive limit (column t verticesAt vertexSize n) t) j ≡ true)
+Inv-loop t n m numbers eighths₀ j₀ eighths j = (j ≤ m) × (every (recordLive limit (column t verticesAt vertexSize n) t) j ≡ true)
 
 abbrev μ-loop : tie.MeasureT-loop
-μ-loop t n m numbers j₀ j = m - j
+μ-loop t n m numbers eighths₀ j₀ eighths j = m - j
 
 copy-numbers-requires : tie.Need-copy-numbers-requires Inv-loop μ-loop
 copy-numbers-requires c κs = search needs

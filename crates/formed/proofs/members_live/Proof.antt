@@ -5,28 +5,37 @@ use lib.ListN.{length, drop}
 use Rattle.lists.specs.Lists.{all}
 use Rattle.lists.proofs.All.{all-on, all-no, all-end}
 use Rattle.layout.specs.Content.{isLive}
-use Rattle.layout.specs.Layout.{limit, verticesAt, vertexSize}
+use Rattle.layout.specs.Layout.{limit, vertexLimit, verticesAt, vertexSize}
 use Rattle.layout.specs.WellFormed.{column}
 use Rattle.formed.specs.Records.{recordLive}
-use Rattle.formed.proofs.Judged.{members-are}
+use Rattle.formed.proofs.Judged.{members-are, members-few}
 use borrow.Author.Needs.{needs}
 use Rattle.formed.proofs.members_live.Statement.{statement}
 use Rattle.formed.proofs.members_live.Tie as tie
 
 abbrev Inv-loop : tie.InvT-loop
-Inv-loop t n numbers j ms i₀ i = (i ≤ length ms) × (all (isLive (column t verticesAt vertexSize n)) (drop i ms) ≡ recordLive limit (column t verticesAt vertexSize n) t j)
+Inv-loop t n numbers eighths j ms i₀ i = (i ≤ length ms) × (length ms ≤ vertexLimit) × (all (isLive (column t verticesAt vertexSize n)) (drop i ms) ≡ recordLive limit (column t verticesAt vertexSize n) t j)
 
 abbrev μ-loop : tie.MeasureT-loop
-μ-loop t n numbers j ms i₀ i = length ms - i
+μ-loop t n numbers eighths j ms i₀ i = length ms - i
 
 members-requires : tie.Need-members-requires Inv-loop μ-loop
 members-requires c κs = search needs
 
+guess-eighths-requires : tie.Need-guess-eighths-requires Inv-loop μ-loop
+guess-eighths-requires c κs = search members-few
+
 loop-holds : tie.Need-loop-holds Inv-loop μ-loop
-loop-holds c = (search needs, search members-are)
+loop-holds c = (search needs, search members-few, search members-are)
 
 mul-is-live : tie.Need-mul-is-live Inv-loop μ-loop
 mul-is-live c = search needs
+
+element-copy-out-is-live : tie.Need-element-copy-out-is-live Inv-loop μ-loop
+element-copy-out-is-live c = search needs
+
+mul-is-live-2 : tie.Need-mul-is-live-2 Inv-loop μ-loop
+mul-is-live-2 c = search needs
 
 shared-slice-read-is-live : tie.Need-shared-slice-read-is-live Inv-loop μ-loop
 shared-slice-read-is-live c = search needs
@@ -44,7 +53,7 @@ loop-less : tie.Need-loop-less Inv-loop μ-loop
 loop-less c = search needs
 
 loop-again : tie.Need-loop-again Inv-loop μ-loop
-loop-again c = (search needs, search all-on)
+loop-again c = (search needs, search needs, search all-on)
 
 returns-2 : tie.Need-returns-2 Inv-loop μ-loop
 returns-2 c = search all-end
@@ -56,8 +65,11 @@ members-live-spec =
     Inv-loop
     μ-loop
     members-requires
+    guess-eighths-requires
     loop-holds
     mul-is-live
+    element-copy-out-is-live
+    mul-is-live-2
     shared-slice-read-is-live
     is-live-requires
     returns

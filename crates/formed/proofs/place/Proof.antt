@@ -2,24 +2,25 @@
 use mathlib.Core.Logic.{⊎-elim}
 use Prim.Native.Nat.{_≤_, _<_, _+_, _*_}
 use native.Mathlib.Omega.{arith}
+use Rattle.formed.proofs.Judged.{eighth-low}
 use borrow.Author.Needs.{needs}
 use Rattle.formed.proofs.place.Statement.{statement}
 use Rattle.formed.proofs.place.Tie as tie
 
 abbrev Inv-loop : tie.InvT-loop
-Inv-loop numbers x p₀ half₀ p half = (p + 2 * half ≤ 256) × (p < 256)
+Inv-loop numbers eighth x p₀ half₀ p half = (p + 2 * half ≤ 256) × (p < 256)
 
 abbrev μ-loop : tie.MeasureT-loop
-μ-loop numbers x p₀ half₀ p half = half
+μ-loop numbers eighth x p₀ half₀ p half = half
+
+mul-p : tie.Need-mul-p Inv-loop μ-loop
+mul-p c = omega (arith, eighth-low (c .args .eighth))
 
 loop-holds : tie.Need-loop-holds Inv-loop μ-loop
-loop-holds c = search needs
+loop-holds c = let h = eighth-low (c .args .eighth) in (omega arith, omega arith)
 
 add-if1 : tie.Need-add-if1 Inv-loop μ-loop
 add-if1 c = search needs
-
-sub-if1 : tie.Need-sub-if1 Inv-loop μ-loop
-sub-if1 c = search needs
 
 mul-if1 : tie.Need-mul-if1 Inv-loop μ-loop
 mul-if1 c = search needs
@@ -45,9 +46,9 @@ place-spec =
     (tie.spec
     Inv-loop
     μ-loop
+    mul-p
     loop-holds
     add-if1
-    sub-if1
     mul-if1
     element-copy-out-if1
     add-p

@@ -6,14 +6,20 @@ use borrow.Author.Needs.{needs}
 use Rattle.frames.proofs.put_byte.Statement.{statement}
 use Rattle.frames.proofs.put_byte.Tie as tie
 
-digit-requires : tie.Need-digit-requires
-digit-requires c κs = search needs
+mul-i : tie.Need-mul-i
+mul-i c = search needs
+
+element-copy-out-high : tie.Need-element-copy-out-high
+element-copy-out-high c = search needs
+
+add-low : tie.Need-add-low
+add-low c = search needs
+
+element-copy-out-low : tie.Need-element-copy-out-low
+element-copy-out-low c = search needs
 
 slice-write-text : tie.Need-slice-write-text
 slice-write-text c = search needs
-
-digit-requires-2 : tie.Need-digit-requires-2
-digit-requires-2 c κs = search needs
 
 add-text : tie.Need-add-text
 add-text c = search needs
@@ -28,15 +34,17 @@ same-length : tie.Need-same-length
 same-length c = search needs
 
 returns : tie.Need-returns
-returns c = search byte-put
+returns c = search (byte-put, needs)
 
 pub put-byte-spec : {M : Type 1} → statement M
 put-byte-spec =
     tie.close
     (tie.spec
-    digit-requires
+    mul-i
+    element-copy-out-high
+    add-low
+    element-copy-out-low
     slice-write-text
-    digit-requires-2
     add-text
     slice-write-text-2
     add-result

@@ -14,7 +14,7 @@ hyperedge-weight-requires : tie.Need-hyperedge-weight-requires
 hyperedge-weight-requires c κs = search needs
 
 put-hyperedge-requires : tie.Need-put-hyperedge-requires
-put-hyperedge-requires c κs = (search members-limit, search members-room)
+put-hyperedge-requires c κs = (search needs, (search members-limit, search members-room))
 
 same-length : tie.Need-same-length
 same-length c = search needs

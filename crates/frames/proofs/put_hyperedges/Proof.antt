@@ -11,16 +11,16 @@ use Rattle.frames.proofs.put_hyperedges.Statement.{statement}
 use Rattle.frames.proofs.put_hyperedges.Tie as tie
 
 abbrev Inv-loop : tie.InvT-loop
-Inv-loop text₀ at t m next₀ j₀ text next j = (j ≤ m) × (length text ≡ length text₀) × Put at (length (hyperedgeLines limit t j)) (hyperedgeLines limit t j) text₀ text next
+Inv-loop text₀ at pairs t m next₀ j₀ text next j = (j ≤ m) × (length text ≡ length text₀) × Put at (length (hyperedgeLines limit t j)) (hyperedgeLines limit t j) text₀ text next
 
 abbrev μ-loop : tie.MeasureT-loop
-μ-loop text₀ at t m next₀ j₀ text next j = m - j
+μ-loop text₀ at pairs t m next₀ j₀ text next j = m - j
 
 loop-holds : tie.Need-loop-holds Inv-loop μ-loop
 loop-holds c = (search needs, refl, hyperedges-none limit (now (c .before .before .args .t)) _ _ (search needs))
 
 put-hyperedge-at-requires : tie.Need-put-hyperedge-at-requires Inv-loop μ-loop
-put-hyperedge-at-requires c κs = (search needs, (search needs, search line-room))
+put-hyperedge-at-requires c κs = (search needs, (search needs, (search needs, search line-room)))
 
 add-j : tie.Need-add-j Inv-loop μ-loop
 add-j c = search needs

@@ -12,10 +12,10 @@ use Rattle.frames.proofs.put_members.Statement.{statement}
 use Rattle.frames.proofs.put_members.Tie as tie
 
 abbrev Inv-loop : tie.InvT-loop
-Inv-loop text₀ at members next₀ i₀ text next i = (i ≤ length members) × (length text ≡ length text₀) × Put at (i * memberLength) (flat numberDigits (take i members)) text₀ text next
+Inv-loop text₀ at pairs members next₀ i₀ text next i = (i ≤ length members) × (length text ≡ length text₀) × Put at (i * memberLength) (flat numberDigits (take i members)) text₀ text next
 
 abbrev μ-loop : tie.MeasureT-loop
-μ-loop text₀ at members next₀ i₀ text next i = length members - i
+μ-loop text₀ at pairs members next₀ i₀ text next i = length members - i
 
 loop-holds : tie.Need-loop-holds Inv-loop μ-loop
 loop-holds c = (search needs, refl, members-none (now (c .before .before .args .members)) _ _ (search needs))

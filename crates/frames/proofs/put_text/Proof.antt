@@ -12,6 +12,9 @@ vertex-count-requires c κs = search needs
 hyperedge-count-requires : tie.Need-hyperedge-count-requires
 hyperedge-count-requires c κs = search needs
 
+byte-pairs-requires : tie.Need-byte-pairs-requires
+byte-pairs-requires c κs = search needs
+
 next-vertex-requires : tie.Need-next-vertex-requires
 next-vertex-requires c κs = search needs
 
@@ -22,17 +25,22 @@ put-head-requires : tie.Need-put-head-requires
 put-head-requires c κs = search head-room
 
 put-vertices-requires : tie.Need-put-vertices-requires
-put-vertices-requires c κs = (search needs, search vertices-room)
+put-vertices-requires c κs = (search needs, (search needs, search vertices-room))
 
 put-hyperedges-requires : tie.Need-put-hyperedges-requires
 put-hyperedges-requires c κs =
-    let head = c .before .before .before .before .before .before .before in
-    let start = head .before .before .before .before .before .before .before .before in (
+    let vertices = c .before .before .before .before in
+    let head = vertices .before .before .before .before .before in
+    let counted = head .before .before .before .before .before .before in
+    let start = counted .before .before .before .before in (
       search needs,
       (
         search needs,
-        hyperedges-room limit (now (start .args .t)) _ _ (head .before .before .before .before .before .vertex-count .ensures) (head .before .before .before .before .hyperedge-count .ensures) _ (start .pre .1)
-            _ _ _ (head .put-head .ensures) _ _ _ (c .before .before .before .put-vertices .ensures),
+        (
+          search needs,
+          hyperedges-room limit (now (start .args .t)) _ _ (counted .before .vertex-count .ensures) (counted .hyperedge-count .ensures) _ (start .pre .1)
+              _ _ _ (head .put-head .ensures) _ _ _ (vertices .put-vertices .ensures),
+        ),
       ),
     )
 
@@ -48,6 +56,7 @@ put-text-spec =
     (tie.spec
     vertex-count-requires
     hyperedge-count-requires
+    byte-pairs-requires
     next-vertex-requires
     next-hyperedge-requires
     put-head-requires

@@ -4,14 +4,8 @@ use borrow.Author.Needs.{needs}
 use Rattle.frames.proofs.put_vertex.Statement.{statement}
 use Rattle.frames.proofs.put_vertex.Tie as tie
 
-put-byte-requires : tie.Need-put-byte-requires
-put-byte-requires c κs = search needs
-
-put-number-requires : tie.Need-put-number-requires
-put-number-requires c κs = search needs
-
-put-number-requires-2 : tie.Need-put-number-requires-2
-put-number-requires-2 c κs = search needs
+put-record-requires : tie.Need-put-record-requires
+put-record-requires c κs = search needs
 
 number-sum-requires : tie.Need-number-sum-requires
 number-sum-requires c κs = search needs
@@ -38,9 +32,7 @@ pub put-vertex-spec : {M : Type 1} → statement M
 put-vertex-spec =
     tie.close
     (tie.spec
-    put-byte-requires
-    put-number-requires
-    put-number-requires-2
+    put-record-requires
     number-sum-requires
     add-put-end
     number-sum-requires-2

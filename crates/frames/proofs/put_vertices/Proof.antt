@@ -13,10 +13,10 @@ use Rattle.frames.proofs.put_vertices.Statement.{statement}
 use Rattle.frames.proofs.put_vertices.Tie as tie
 
 abbrev Inv-loop : tie.InvT-loop
-Inv-loop text₀ at t n next₀ i₀ text next i = (i ≤ n) × (length text ≡ length text₀) × Put at (i * vertexLength) (flat vertexLine (tab (vertexAt t) i)) text₀ text next
+Inv-loop text₀ at pairs t n next₀ i₀ text next i = (i ≤ n) × (length text ≡ length text₀) × Put at (i * vertexLength) (flat vertexLine (tab (vertexAt t) i)) text₀ text next
 
 abbrev μ-loop : tie.MeasureT-loop
-μ-loop text₀ at t n next₀ i₀ text next i = n - i
+μ-loop text₀ at pairs t n next₀ i₀ text next i = n - i
 
 loop-holds : tie.Need-loop-holds Inv-loop μ-loop
 loop-holds c = (search needs, refl, vertices-none (now (c .before .before .args .t)) _ _ (search needs))

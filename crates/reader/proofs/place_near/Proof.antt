@@ -1,16 +1,16 @@
 -- `reader::place_near` meets its contract. Assumes nothing.
 use mathlib.Core.Logic.{⊎-elim}
-use Prim.Native.Nat.{_+_, _≤_}
+use Prim.Native.Nat.{_+_, _*_, _≤_, _<_}
 use native.Mathlib.Omega.{arith}
 use borrow.Author.Needs.{needs}
 use Rattle.reader.proofs.place_near.Statement.{statement}
 use Rattle.reader.proofs.place_near.Tie as tie
 
 abbrev Inv-loop : tie.InvT-loop
-Inv-loop words n x p₀ rest₀ p rest = p + rest ≤ n
+Inv-loop words x p₀ half₀ p half = (p + 2 * half ≤ 256) × (p < 256)
 
 abbrev μ-loop : tie.MeasureT-loop
-μ-loop words n x p₀ rest₀ p rest = rest
+μ-loop words x p₀ half₀ p half = half
 
 loop-holds : tie.Need-loop-holds Inv-loop μ-loop
 loop-holds c = search needs
@@ -21,11 +21,11 @@ add-vertex-number c = search needs
 vertex-number-requires : tie.Need-vertex-number-requires Inv-loop μ-loop
 vertex-number-requires c κs = search needs
 
+wrapping-sub-u32-requires : tie.Need-wrapping-sub-u32-requires Inv-loop μ-loop
+wrapping-sub-u32-requires c κs = search needs
+
 add-p : tie.Need-add-p Inv-loop μ-loop
 add-p c = search needs
-
-sub-rest : tie.Need-sub-rest Inv-loop μ-loop
-sub-rest c = search needs
 
 loop-less : tie.Need-loop-less Inv-loop μ-loop
 loop-less c = search needs
@@ -45,8 +45,8 @@ place-near-spec =
     loop-holds
     add-vertex-number
     vertex-number-requires
+    wrapping-sub-u32-requires
     add-p
-    sub-rest
     loop-less
     loop-again
     returns)

@@ -4,27 +4,18 @@ use borrow.Author.Needs.{needs}
 use Rattle.walk.proofs.drawn_hyperedge.Statement.{statement}
 use Rattle.walk.proofs.drawn_hyperedge.Tie as tie
 
-mark-listing-requires : tie.Need-mark-listing-requires
-mark-listing-requires c κs = search needs
-
 total-weight-requires : tie.Need-total-weight-requires
-total-weight-requires c κs = search needs
+total-weight-requires c κs = (search needs, (search needs, search needs, search needs))
 
 sample-requires : tie.Need-sample-requires
 sample-requires c κs = search needs
 
 first-greater-requires : tie.Need-first-greater-requires
-first-greater-requires c κs = search needs
+first-greater-requires c κs = (search needs, (search needs, search needs, search needs, search needs))
 
 returns : tie.Need-returns
 returns c = search greater-drawn
 
 pub drawn-hyperedge-spec : {M : Type 1} → statement M
 drawn-hyperedge-spec =
-    tie.close
-    (tie.spec
-    mark-listing-requires
-    total-weight-requires
-    sample-requires
-    first-greater-requires
-    returns)
+    tie.close (tie.spec total-weight-requires sample-requires first-greater-requires returns)

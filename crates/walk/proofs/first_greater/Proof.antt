@@ -1,55 +1,52 @@
 -- `walk::first_greater` meets its contract. Assumes nothing.
 use Prim.Native.Nat.{_-_}
-use Rattle.walk.proofs.Listing.{Left, left-all, left-take, left-on, left-end}
+use Rattle.walk.specs.Passes.{listersOf}
+use Rattle.walk.proofs.Listing.{Left, left-all, left-take, left-on, left-end, listers-limit}
 use borrow.Author.Needs.{needs}
 use Rattle.walk.proofs.first_greater.Statement.{statement}
 use Rattle.walk.proofs.first_greater.Tie as tie
 
 abbrev Inv-loop : tie.InvT-loop
-Inv-loop t marks n x sum₀ j₀ sum j = Left t marks n x sum j
+Inv-loop t rows counts i n x sum₀ k₀ sum k = Left t (listersOf t i) x sum k
 
 abbrev μ-loop : tie.MeasureT-loop
-μ-loop t marks n x sum₀ j₀ sum j = n - j
+μ-loop t rows counts i n x sum₀ k₀ sum k = n - k
 
 loop-holds : tie.Need-loop-holds Inv-loop μ-loop
-loop-holds c = left-all _ _ _ _
+loop-holds c = left-all _ _ _ (search listers-limit)
 
-element-copy-out-counting : tie.Need-element-copy-out-counting Inv-loop μ-loop
-element-copy-out-counting c = search needs
+lister-requires : tie.Need-lister-requires Inv-loop μ-loop
+lister-requires c κs = (search needs, (search needs, search needs, search needs))
 
 hyperedge-weight-requires : tie.Need-hyperedge-weight-requires Inv-loop μ-loop
 hyperedge-weight-requires c κs = search needs
 
-counting-requires : tie.Need-counting-requires Inv-loop μ-loop
-counting-requires c κs = search needs
+wide-requires : tie.Need-wide-requires Inv-loop μ-loop
+wide-requires c κs = search needs
 
 add-sum : tie.Need-add-sum Inv-loop μ-loop
 add-sum c = search needs
-
-element-copy-out-greater : tie.Need-element-copy-out-greater Inv-loop μ-loop
-element-copy-out-greater c = search needs
 
 greater-requires : tie.Need-greater-requires Inv-loop μ-loop
 greater-requires c κs = search needs
 
 returns : tie.Need-returns Inv-loop μ-loop
-returns c = let b = c .before .before .before in
-    left-take _ _ _ _ _ _ (b .before .before .before .before .loop .inv) (b .before .before .before .loop-test .taken)
-    _ _ (b .before .hyperedge-weight .ensures) (b .counting .ensures .0) _ (c .before .greater .ensures) (c .if1 .taken)
+returns c = search left-take
 
-add-j : tie.Need-add-j Inv-loop μ-loop
-add-j c = search needs
+add-k : tie.Need-add-k Inv-loop μ-loop
+add-k c = search needs
 
 loop-less : tie.Need-loop-less Inv-loop μ-loop
 loop-less c = search needs
 
 loop-again : tie.Need-loop-again Inv-loop μ-loop
-loop-again c = let b = c .before .before .before in
-    left-on _ _ _ _ _ _ (b .before .before .before .before .loop .inv) (b .before .before .before .loop-test .taken)
-    _ _ (b .before .hyperedge-weight .ensures) (b .counting .ensures .0) _ (c .before .greater .ensures) (b .counting .ensures .1) (c .if1 .left)
+loop-again c = search left-on
 
-sub-result : tie.Need-sub-result Inv-loop μ-loop
-sub-result c = search needs
+sub-lister : tie.Need-sub-lister Inv-loop μ-loop
+sub-lister c = search needs
+
+lister-requires-2 : tie.Need-lister-requires-2 Inv-loop μ-loop
+lister-requires-2 c κs = (search needs, (search needs, search needs, search needs))
 
 returns-2 : tie.Need-returns-2 Inv-loop μ-loop
 returns-2 c = search left-end
@@ -61,15 +58,15 @@ first-greater-spec =
     Inv-loop
     μ-loop
     loop-holds
-    element-copy-out-counting
+    lister-requires
     hyperedge-weight-requires
-    counting-requires
+    wide-requires
     add-sum
-    element-copy-out-greater
     greater-requires
     returns
-    add-j
+    add-k
     loop-less
     loop-again
-    sub-result
+    sub-lister
+    lister-requires-2
     returns-2)

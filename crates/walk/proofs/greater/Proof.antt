@@ -1,5 +1,4 @@
 -- `walk::greater` meets its contract. Assumes nothing.
-use Rattle.walk.proofs.Listing.{greater-is}
 use borrow.Author.Needs.{needs}
 use Rattle.walk.proofs.greater.Statement.{statement}
 use Rattle.walk.proofs.greater.Tie as tie
@@ -8,7 +7,7 @@ exact-requires : tie.Need-exact-requires
 exact-requires c κs = search needs
 
 returns : tie.Need-returns
-returns c = search greater-is
+returns c = rw (c .exact .ensures)
 
 pub greater-spec : {M : Type 1} → statement M
 greater-spec = tie.close (tie.spec exact-requires returns)

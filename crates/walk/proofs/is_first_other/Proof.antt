@@ -1,25 +1,27 @@
 -- `walk::is_first_other` meets its contract. Assumes nothing.
-use mathlib.Core.Path.{sym}
-use lib.Seq.{length-take-le}
+use Rattle.walk.proofs.FirstPlaces.{mark-within}
 use Rattle.walk.proofs.Others.{other-same, other-first}
 use borrow.Author.Needs.{needs}
 use Rattle.walk.proofs.is_first_other.Statement.{statement}
 use Rattle.walk.proofs.is_first_other.Tie as tie
 
-mul-x : tie.Need-mul-x
-mul-x c = search needs
+mul-if1 : tie.Need-mul-if1
+mul-if1 c = search needs
 
-shared-slice-read-x : tie.Need-shared-slice-read-x
-shared-slice-read-x c = search needs
+shared-slice-read-if1 : tie.Need-shared-slice-read-if1
+shared-slice-read-if1 c = search needs
 
 returns : tie.Need-returns
 returns c = search other-same
 
-slice-aggregate-lists-vertex : tie.Need-slice-aggregate-lists-vertex
-slice-aggregate-lists-vertex c = sym (length-take-le _ _ (search needs))
+mul-result : tie.Need-mul-result
+mul-result c = search needs
 
-lists-vertex-requires : tie.Need-lists-vertex-requires
-lists-vertex-requires c κs = search needs
+add-result : tie.Need-add-result
+add-result c = search needs
+
+element-copy-out-result : tie.Need-element-copy-out-result
+element-copy-out-result c = search mark-within
 
 returns-2 : tie.Need-returns-2
 returns-2 c = search other-first
@@ -28,9 +30,10 @@ pub is-first-other-spec : {M : Type 1} → statement M
 is-first-other-spec =
     tie.close
     (tie.spec
-    mul-x
-    shared-slice-read-x
+    mul-if1
+    shared-slice-read-if1
     returns
-    slice-aggregate-lists-vertex
-    lists-vertex-requires
+    mul-result
+    add-result
+    element-copy-out-result
     returns-2)

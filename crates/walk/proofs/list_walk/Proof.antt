@@ -13,14 +13,11 @@ add-n c = search needs
 returns : tie.Need-returns
 returns c = search walk-over
 
-member-matrix-requires : tie.Need-member-matrix-requires
-member-matrix-requires c κs = search needs
-
 first-state-requires : tie.Need-first-state-requires
 first-state-requires c κs = search needs
 
-write-walk-requires : tie.Need-write-walk-requires
-write-walk-requires c κs = search needs
+lay-out-and-write-requires : tie.Need-lay-out-and-write-requires
+lay-out-and-write-requires c κs = search needs
 
 same-length : tie.Need-same-length
 same-length c = search needs
@@ -35,8 +32,7 @@ list-walk-spec =
     cut-requires
     add-n
     returns
-    member-matrix-requires
     first-state-requires
-    write-walk-requires
+    lay-out-and-write-requires
     same-length
     returns-2)

@@ -25,10 +25,4 @@ returns-2 c = search needs
 pub step-spec : {M : Type 1} → statement M
 step-spec =
     tie.close
-    (tie.spec
-    find-vertex-requires
-    enum-told
-    enum-known-f
-    step-from-requires
-    returns
-    returns-2)
+    (tie.spec find-vertex-requires enum-told enum-known-f step-from-requires returns returns-2)

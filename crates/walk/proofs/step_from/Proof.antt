@@ -1,11 +1,11 @@
 -- `walk::step_from` meets its contract. Assumes nothing.
-use Rattle.walk.proofs.Walked.{stands, move-none, move-one, members-few}
+use Rattle.walk.proofs.Walked.{stands, move-none, move-one}
 use borrow.Author.Needs.{needs}
 use Rattle.walk.proofs.step_from.Statement.{statement}
 use Rattle.walk.proofs.step_from.Tie as tie
 
-listing-end-requires : tie.Need-listing-end-requires
-listing-end-requires c κs = (search needs, (search stands, search needs))
+lister-count-requires : tie.Need-lister-count-requires
+lister-count-requires c κs = (search needs, (search stands, search needs))
 
 returns : tie.Need-returns
 returns c = search move-none
@@ -16,11 +16,8 @@ xorshift-requires c κs = search needs
 drawn-hyperedge-requires : tie.Need-drawn-hyperedge-requires
 drawn-hyperedge-requires c κs = (search needs, (search stands, search needs, search needs, search needs))
 
-members-formed-requires : tie.Need-members-formed-requires
-members-formed-requires c κs = search needs
-
 to-one-of-requires : tie.Need-to-one-of-requires
-to-one-of-requires c κs = search members-few
+to-one-of-requires c κs = (search needs, (search needs, search needs))
 
 returns-2 : tie.Need-returns-2
 returns-2 c = search move-one
@@ -29,10 +26,9 @@ pub step-from-spec : {M : Type 1} → statement M
 step-from-spec =
     tie.close
     (tie.spec
-    listing-end-requires
+    lister-count-requires
     returns
     xorshift-requires
     drawn-hyperedge-requires
-    members-formed-requires
     to-one-of-requires
     returns-2)

@@ -5,7 +5,7 @@ use Rattle.walk.proofs.to_one_of.Statement.{statement}
 use Rattle.walk.proofs.to_one_of.Tie as tie
 
 list-others-requires : tie.Need-list-others-requires
-list-others-requires c κs = search needs
+list-others-requires c κs = (search needs, (search needs, search needs, search needs))
 
 returns : tie.Need-returns
 returns c = search stays
@@ -25,10 +25,4 @@ returns-2 c = search goes
 pub to-one-of-spec : {M : Type 1} → statement M
 to-one-of-spec =
     tie.close
-    (tie.spec
-    list-others-requires
-    returns
-    xorshift-requires
-    rem-k
-    pick-requires
-    returns-2)
+    (tie.spec list-others-requires returns xorshift-requires rem-k pick-requires returns-2)

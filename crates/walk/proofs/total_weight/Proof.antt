@@ -1,33 +1,34 @@
 -- `walk::total_weight` meets its contract. Assumes nothing.
 use Prim.Native.Nat.{_-_}
-use Rattle.walk.proofs.Listing.{Summed, summed-none, summed-more, summed-end}
+use Rattle.walk.specs.Passes.{listersOf}
+use Rattle.walk.proofs.Listing.{Summed, summed-none, summed-more, summed-end, listers-limit}
 use borrow.Author.Needs.{needs}
 use Rattle.walk.proofs.total_weight.Statement.{statement}
 use Rattle.walk.proofs.total_weight.Tie as tie
 
 abbrev Inv-loop : tie.InvT-loop
-Inv-loop t marks n total₀ j₀ total j = Summed t marks n total j
+Inv-loop t rows counts i n total₀ k₀ total k = Summed t (listersOf t i) total k
 
 abbrev μ-loop : tie.MeasureT-loop
-μ-loop t marks n total₀ j₀ total j = n - j
+μ-loop t rows counts i n total₀ k₀ total k = n - k
 
 loop-holds : tie.Need-loop-holds Inv-loop μ-loop
-loop-holds c = summed-none _ _ _
+loop-holds c = summed-none _ _ (search listers-limit)
 
-element-copy-out-counting : tie.Need-element-copy-out-counting Inv-loop μ-loop
-element-copy-out-counting c = search needs
+lister-requires : tie.Need-lister-requires Inv-loop μ-loop
+lister-requires c κs = (search needs, (search needs, search needs, search needs))
 
 hyperedge-weight-requires : tie.Need-hyperedge-weight-requires Inv-loop μ-loop
 hyperedge-weight-requires c κs = search needs
 
-counting-requires : tie.Need-counting-requires Inv-loop μ-loop
-counting-requires c κs = search needs
+wide-requires : tie.Need-wide-requires Inv-loop μ-loop
+wide-requires c κs = search needs
 
 add-total : tie.Need-add-total Inv-loop μ-loop
 add-total c = search needs
 
-add-j : tie.Need-add-j Inv-loop μ-loop
-add-j c = search needs
+add-k : tie.Need-add-k Inv-loop μ-loop
+add-k c = search needs
 
 loop-less : tie.Need-loop-less Inv-loop μ-loop
 loop-less c = search needs
@@ -45,11 +46,11 @@ total-weight-spec =
     Inv-loop
     μ-loop
     loop-holds
-    element-copy-out-counting
+    lister-requires
     hyperedge-weight-requires
-    counting-requires
+    wide-requires
     add-total
-    add-j
+    add-k
     loop-less
     loop-again
     returns)

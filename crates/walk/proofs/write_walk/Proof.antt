@@ -1,4 +1,4 @@
--- `walk::write_walk` meets its contract: `Wrote` at each vertex. Assumes nothing.
+-- `walk::write_walk` meets its contract. Assumes nothing.
 use Prim.Native.Nat.{_-_}
 use Rattle.layout.specs.Layout.{limit, read}
 use Rattle.walk.specs.Walk.{walker}
@@ -8,10 +8,10 @@ use Rattle.walk.proofs.write_walk.Statement.{statement}
 use Rattle.walk.proofs.write_walk.Tie as tie
 
 abbrev Inv-loop : tie.InvT-loop
-Inv-loop t m n out₀ at₀ state₀ i₀ out at state i = Wrote (read limit t) (walker at₀ state₀) n out₀ at state i out
+Inv-loop t firsts rows counts n out₀ at₀ state₀ i₀ out at state i = Wrote (read limit t) (walker at₀ state₀) n out₀ at state i out
 
 abbrev μ-loop : tie.MeasureT-loop
-μ-loop t m n out₀ at₀ state₀ i₀ out at state i = n - i
+μ-loop t firsts rows counts n out₀ at₀ state₀ i₀ out at state i = n - i
 
 loop-holds : tie.Need-loop-holds Inv-loop μ-loop
 loop-holds c = wrote-none _ _ _ _

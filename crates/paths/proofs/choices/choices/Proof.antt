@@ -1,5 +1,7 @@
 -- `paths::choices::choices` meets its contract. Assumes nothing.
 use Prim.Native.Nat.{_≤_, _-_}
+use Rattle.distance.specs.Cost.{Listed}
+use Rattle.distance.proofs.Lists.{listed-none}
 use Rattle.paths.specs.Choices.{Choosing}
 use Rattle.paths.proofs.Choosing.{choosing-none, chosen-end}
 use borrow.Author.Needs.{needs}
@@ -7,19 +9,19 @@ use Rattle.paths.proofs.choices.choices.Statement.{statement}
 use Rattle.paths.proofs.choices.choices.Tie as tie
 
 abbrev Inv-loop : tie.InvT-loop
-Inv-loop back t w c₀ k j₀ c j = (j ≤ k) × Choosing back t j c
+Inv-loop back t w c₀ lists₀ counts₀ k j₀ c lists counts j = (j ≤ k) × Choosing back t j c × Listed c lists counts
 
 abbrev μ-loop : tie.MeasureT-loop
-μ-loop back t w c₀ k j₀ c j = k - j
+μ-loop back t w c₀ lists₀ counts₀ k j₀ c lists counts j = k - j
 
 hyperedge-count-requires : tie.Need-hyperedge-count-requires Inv-loop μ-loop
 hyperedge-count-requires c κs = search needs
 
 loop-holds : tie.Need-loop-holds Inv-loop μ-loop
-loop-holds c = (search needs, choosing-none (c .before .before .args .back) (c .before .before .args .t .now))
+loop-holds c = (search needs, choosing-none (c .before .before .args .back) (c .before .before .args .t .now), search listed-none)
 
 choose-record-requires : tie.Need-choose-record-requires Inv-loop μ-loop
-choose-record-requires c κs = (search needs, (search needs, search needs, search needs))
+choose-record-requires c κs = (search needs, (search needs, search needs, search needs, search needs))
 
 add-j : tie.Need-add-j Inv-loop μ-loop
 add-j c = search needs
@@ -28,10 +30,10 @@ loop-less : tie.Need-loop-less Inv-loop μ-loop
 loop-less c = search needs
 
 loop-again : tie.Need-loop-again Inv-loop μ-loop
-loop-again c = (search needs, search needs)
+loop-again c = (search needs, search needs, search needs)
 
 returns : tie.Need-returns Inv-loop μ-loop
-returns c = search chosen-end
+returns c = (search chosen-end, search needs)
 
 pub choices-spec : {M : Type 1} → statement M
 choices-spec =

@@ -1,5 +1,6 @@
 -- `paths::choices::choose` meets its contract. Assumes nothing.
 use Rattle.steps.specs.Matrices.{cell}
+use Rattle.distance.proofs.Lists.{listed-room, listed-more, listed-kept}
 use Rattle.paths.proofs.Values.{choose-first, choose-lighter, choose-kept}
 use borrow.Author.Needs.{needs}
 use Rattle.paths.proofs.choices.choose.Statement.{statement}
@@ -23,8 +24,11 @@ add-c c = search needs
 element-write-c : tie.Need-element-write-c
 element-write-c c = search needs
 
+append-requires : tie.Need-append-requires
+append-requires c κs = (search needs, search needs, search listed-room)
+
 returns : tie.Need-returns
-returns c = search choose-first
+returns c = (search choose-first, search listed-more)
 
 weight-at-requires : tie.Need-weight-at-requires
 weight-at-requires c κs = search needs
@@ -43,13 +47,17 @@ element-write-c-2 c = search needs
 
 returns-2 : tie.Need-returns-2
 returns-2 c =
-    let s = c .before .before .before .before .before in
-    choose-lighter (s .args .w .now) (s .args .c .now) (cell (s .args .a) (s .args .b)) (s .args .k) (c .before .before .before .if1 .left) _ (c .before .before .weight-at .ensures) _ (c .before .weight-at2 .ensures) (c .if2 .taken)
+    let s = c .before .before .before .before .before in (
+      choose-lighter (s .args .w .now) (s .args .c .now) (cell (s .args .a) (s .args .b)) (s .args .k) (c .before .before .before .if1 .left) _ (c .before .before .weight-at .ensures) _ (c .before .weight-at2 .ensures) (c .if2 .taken),
+      search listed-kept,
+    )
 
 returns-3 : tie.Need-returns-3
 returns-3 c =
-    let s = c .before .before .before .before .before in
-    choose-kept (s .args .w .now) (s .args .c .now) (cell (s .args .a) (s .args .b)) (s .args .k) (c .before .before .before .if1 .left) _ (c .before .before .weight-at .ensures) _ (c .before .weight-at2 .ensures) (c .if2 .left)
+    let s = c .before .before .before .before .before in (
+      choose-kept (s .args .w .now) (s .args .c .now) (cell (s .args .a) (s .args .b)) (s .args .k) (c .before .before .before .if1 .left) _ (c .before .before .weight-at .ensures) _ (c .before .weight-at2 .ensures) (c .if2 .left),
+      search needs,
+    )
 
 pub choose-spec : {M : Type 1} → statement M
 choose-spec =
@@ -61,6 +69,7 @@ choose-spec =
     mul-c
     add-c
     element-write-c
+    append-requires
     returns
     weight-at-requires
     weight-at-requires-2

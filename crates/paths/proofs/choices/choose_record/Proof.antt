@@ -2,16 +2,17 @@
 use Prim.Native.Nat.{_-_}
 use lib.ListN.{length}
 use Rattle.steps.proofs.Members.{members-some, members-live, place-below}
+use Rattle.distance.specs.Cost.{Listed}
 use Rattle.paths.proofs.Choosing.{Passing, passing-first, passing-more, passing-end}
 use borrow.Author.Needs.{needs}
 use Rattle.paths.proofs.choices.choose_record.Statement.{statement}
 use Rattle.paths.proofs.choices.choose_record.Tie as tie
 
 abbrev Inv-loop : tie.InvT-loop
-Inv-loop back t w j c₀ k ms a₀ i₀ c a i = Passing t back j ms i a c
+Inv-loop back t w j c₀ lists₀ counts₀ k ms a₀ i₀ c lists counts a i = Passing t back j ms i a c × Listed c lists counts
 
 abbrev μ-loop : tie.MeasureT-loop
-μ-loop back t w j c₀ k ms a₀ i₀ c a i = length ms - i
+μ-loop back t w j c₀ lists₀ counts₀ k ms a₀ i₀ c lists counts a i = length ms - i
 
 add-k : tie.Need-add-k Inv-loop μ-loop
 add-k c = search needs
@@ -29,7 +30,7 @@ place-requires : tie.Need-place-requires Inv-loop μ-loop
 place-requires c κs = (search needs, search (members-live, members-some))
 
 loop-holds : tie.Need-loop-holds Inv-loop μ-loop
-loop-holds c = search (passing-first, members-some)
+loop-holds c = (search (passing-first, members-some), search needs)
 
 add-loop : tie.Need-add-loop Inv-loop μ-loop
 add-loop c = search needs
@@ -47,7 +48,7 @@ place-requires-2 : tie.Need-place-requires-2 Inv-loop μ-loop
 place-requires-2 c κs = (search needs, search members-live)
 
 choose-step-requires : tie.Need-choose-step-requires Inv-loop μ-loop
-choose-step-requires c κs = (search place-below, search place-below)
+choose-step-requires c κs = (search place-below, search place-below, search needs, search needs, search needs)
 
 add-i : tie.Need-add-i Inv-loop μ-loop
 add-i c = search needs
@@ -56,10 +57,10 @@ loop-less : tie.Need-loop-less Inv-loop μ-loop
 loop-less c = search needs
 
 loop-again : tie.Need-loop-again Inv-loop μ-loop
-loop-again c = search passing-more
+loop-again c = (search passing-more, search needs)
 
 returns : tie.Need-returns Inv-loop μ-loop
-returns c = search passing-end
+returns c = (search passing-end, search needs)
 
 pub choose-record-spec : {M : Type 1} → statement M
 choose-record-spec =

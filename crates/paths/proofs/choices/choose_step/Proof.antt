@@ -11,10 +11,10 @@ choose-requires-2 : tie.Need-choose-requires-2
 choose-requires-2 c κs = search needs
 
 returns : tie.Need-returns
-returns c = search step-back
+returns c = (search step-back, search needs)
 
 returns-2 : tie.Need-returns-2
-returns-2 c = search step-forth
+returns-2 c = (search step-forth, search needs)
 
 pub choose-step-spec : {M : Type 1} → statement M
 choose-step-spec = tie.close (tie.spec choose-requires choose-requires-2 returns returns-2)

@@ -1,18 +1,17 @@
 -- `walk::membership::enter_record` meets its contract. Assumes nothing.
 use Prim.Native.Nat.{_-_}
 use lib.ListN.{length}
-use Rattle.layout.specs.Layout.{vertexLimit}
-use Rattle.steps.specs.Matrices.{Holds}
-use Rattle.walk.proofs.Entered.{entering, entering-none, entering-more, entering-all}
+use Rattle.walk.specs.Passes.{Entering}
+use Rattle.walk.proofs.Entered.{entering-none, listed-in, listed-at, entering-all}
 use borrow.Author.Needs.{needs}
 use Rattle.walk.proofs.membership.enter_record.Statement.{statement}
 use Rattle.walk.proofs.membership.enter_record.Tie as tie
 
 abbrev Inv-loop : tie.InvT-loop
-Inv-loop t j m₀ ms p₀ m p = Holds (entering t j p) vertexLimit m
+Inv-loop t firsts j rows₀ counts₀ ms p₀ rows counts p = Entering t j p rows counts
 
 abbrev μ-loop : tie.MeasureT-loop
-μ-loop t j m₀ ms p₀ m p = length ms - p
+μ-loop t firsts j rows₀ counts₀ ms p₀ rows counts p = length ms - p
 
 members-formed-requires : tie.Need-members-formed-requires Inv-loop μ-loop
 members-formed-requires c κs = search needs
@@ -27,7 +26,7 @@ shared-slice-read-enter : tie.Need-shared-slice-read-enter Inv-loop μ-loop
 shared-slice-read-enter c = search needs
 
 enter-requires : tie.Need-enter-requires Inv-loop μ-loop
-enter-requires c κs = search needs
+enter-requires c κs = (search needs, ((search needs, search listed-in, search listed-at, search needs), search needs))
 
 add-p : tie.Need-add-p Inv-loop μ-loop
 add-p c = search needs
@@ -36,7 +35,7 @@ loop-less : tie.Need-loop-less Inv-loop μ-loop
 loop-less c = search needs
 
 loop-again : tie.Need-loop-again Inv-loop μ-loop
-loop-again c = search entering-more
+loop-again c = search needs
 
 returns : tie.Need-returns Inv-loop μ-loop
 returns c = search entering-all
