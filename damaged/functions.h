@@ -13,12 +13,14 @@ typedef struct {
     size_t count;
     size_t size;
     uint64_t seed;
+    const uint8_t *text;
+    size_t bytes;
     void *out;
     size_t room;
 } arguments;
 
 /* What a function takes. */
-enum { VERTEX = 1, HYPEREDGE = 2, WEIGHT = 4, SECOND = 8, MEMBERS_LIST = 16, HYPEREDGES_LIST = 32, SIZE = 64, WALK = 128, OUT = 256, TEXT = 512 };
+enum { VERTEX = 1, HYPEREDGE = 2, WEIGHT = 4, SECOND = 8, MEMBERS_LIST = 16, HYPEREDGES_LIST = 32, SIZE = 64, WALK = 128, OUT = 256, TEXT = 512, READ = 1024 };
 
 #define FUNCTIONS(F)                                                                                        \
     F(add_vertex, WEIGHT, (T, a->x))                                                                        \
@@ -60,7 +62,8 @@ enum { VERTEX = 1, HYPEREDGE = 2, WEIGHT = 4, SECOND = 8, MEMBERS_LIST = 16, HYP
     F(get_dijkstra_connections_with_cost, VERTEX | SECOND | OUT, (T, X, Y, O))                              \
     F(get_dijkstra_from, VERTEX | OUT, (T, X, O))                                                           \
     F(random_walk, VERTEX | WALK | OUT, (T, X, a->size, a->seed, O))                                        \
-    F(write_frames, TEXT, (T, O))
+    F(write_frames, TEXT, (T, O))                                                                           \
+    F(read_frames, READ, (T, a->text, a->bytes))
 
 #define NUMBER_OF(name, takes, words) F_##name,
 enum { FUNCTIONS(NUMBER_OF) COUNT_OF_FUNCTIONS };

@@ -879,6 +879,97 @@ static void judge_write_frames(const content *c, const arguments *a, verdict *v)
     }
 }
 
+/* A text and how far it was read; `good` as long as no line was faulty. */
+typedef struct {
+    const uint8_t *text;
+    size_t bytes, at;
+    bool good;
+} reading;
+
+static uint32_t read_digit(reading *r) {
+    uint8_t c = r->at < r->bytes ? r->text[r->at++] : '?';
+    if (c >= '0' && c <= '9')
+        return c - (uint32_t)'0';
+    if (c >= 'A' && c <= 'F')
+        return c - (uint32_t)'A' + 10;
+    r->good = false;
+    return 0;
+}
+
+static uint32_t read_bytes(reading *r, int bytes) {
+    uint32_t number = 0;
+    EACH(k, bytes) {
+        uint32_t high = read_digit(r), byte = 16 * high + read_digit(r);
+        byte_sum = (uint8_t)(byte_sum + byte);
+        number = number << 8 | byte;
+    }
+    return number;
+}
+
+static void demand(reading *r, bool fact) { r->good = r->good && fact; }
+
+static void read_end(reading *r) {
+    read_bytes(r, 1);
+    demand(r, byte_sum == 0 && r->at < r->bytes && r->text[r->at++] == '\n');
+    byte_sum = 0;
+}
+
+/* Whether a table can have the last number that was read: it is above the one before, and those to come have room below the next. */
+static bool can_stand(const uint32_t *numbers, int i, int count, uint32_t next) {
+    return (i == 0 || numbers[i - 1] < numbers[i]) && (int64_t)numbers[i] + (count - 1 - i) < next;
+}
+
+static void read_head(reading *r, content *c) {
+    demand(r, read_bytes(r, 3) == 0x484731);
+    c->next_vertex = read_bytes(r, 4);
+    c->next_hyperedge = read_bytes(r, 4);
+    c->n = (int)read_bytes(r, 2);
+    c->m = (int)read_bytes(r, 2);
+    demand(r, c->n <= MOST_VERTICES && c->m <= MOST_HYPEREDGES && (c->m == 0 || c->n > 0));
+    demand(r, (uint32_t)c->n <= c->next_vertex && (uint32_t)c->m <= c->next_hyperedge);
+    read_end(r);
+}
+
+static void read_vertex_line(reading *r, content *c, int i) {
+    demand(r, read_bytes(r, 1) == 1);
+    c->vertex[i] = read_bytes(r, 4);
+    c->vertex_weight[i] = read_bytes(r, 4);
+    demand(r, can_stand(c->vertex, i, c->n, c->next_vertex));
+    read_end(r);
+}
+
+static void read_hyperedge_line(reading *r, content *c, int j) {
+    demand(r, read_bytes(r, 1) == 2);
+    c->hyperedge[j] = read_bytes(r, 4);
+    c->weight[j] = read_bytes(r, 4);
+    c->count[j] = (int)read_bytes(r, 1);
+    demand(r, can_stand(c->hyperedge, j, c->m, c->next_hyperedge));
+    demand(r, c->count[j] >= 1 && c->count[j] <= MOST_MEMBERS);
+    for (int i = 0; r->good && i < c->count[j]; i++) {
+        c->member[j][i] = place_of_vertex(c, read_bytes(r, 4));
+        demand(r, c->member[j][i] >= 0);
+    }
+    read_end(r);
+}
+
+static void judge_read_frames(const content *c, const arguments *a, verdict *v) {
+    static content told;
+    reading r = {.text = a->text, .bytes = a->bytes, .good = true};
+    uint64_t line = 1;
+    (void)c;
+    byte_sum = 0;
+    read_head(&r, &told);
+    for (int i = 0; r.good && i < told.n; i++, line++)
+        read_vertex_line(&r, &told, i);
+    for (int j = 0; r.good && j < told.m; j++, line++)
+        read_hyperedge_line(&r, &told, j);
+    if (!r.good)
+        SAY(12, line);
+    if (r.at < r.bytes)
+        SAY(12, line + 1);
+    write_table(&told, v);
+}
+
 /* ---- The verdict */
 
 #define JUDGE_OF(name, takes, words) judge_##name,
@@ -888,7 +979,8 @@ void judge(int function, const content *c, const arguments *a, verdict *v) {
     v->changed = false;
     v->listed = 0;
     say(v, 0, 0);
-    if (function == F_clear ? !c->sized : !c->formed)
+    bool whatever_it_holds = function == F_clear || function == F_read_frames;
+    if (whatever_it_holds ? !c->sized : !c->formed)
         SAY(1, 0);
     judges[function](c, a, v);
     if (v->number == 0 && v->listed > 0)

@@ -9,7 +9,7 @@
 #include "judge.h"
 #include "tables.h"
 
-enum { MARGIN = 64, PAINT = 0xA5, NUMBERS_OF_ANSWERS = 13, MOST_SHOWN = 20, MOST_LIST = 8000, LONGEST_TRIED = 400 };
+enum { MARGIN = 64, PAINT = 0xA5, NUMBERS_OF_ANSWERS = 13, MOST_SHOWN = 20, MOST_LIST = 8000, MOST_TEXT = 80000, LONGEST_TRIED = 400 };
 
 static uint64_t counts[COUNT_OF_FUNCTIONS][NUMBERS_OF_ANSWERS], differing[COUNT_OF_FUNCTIONS];
 static int shown;
@@ -17,7 +17,7 @@ static const char *section;
 
 /* ---- Lent memory */
 
-static uint8_t *table_end, *list_end, *out_end;
+static uint8_t *table_end, *list_end, *text_end, *out_end;
 static uint8_t painted[4 * MOST_WORDS + MARGIN];
 
 /* The end of so many bytes behind which no memory is. */
@@ -55,6 +55,13 @@ static void lend_list(const uint32_t *list, size_t count) {
     lent.count = count;
     if (count > 0)
         memcpy(list_end - 4 * count, list, 4 * count);
+}
+
+static void lend_text(const uint8_t *text, size_t bytes) {
+    lent.text = text_end - bytes;
+    lent.bytes = bytes;
+    if (bytes > 0)
+        memcpy(text_end - bytes, text, bytes);
 }
 
 /* ---- A call, held against the verdict */
@@ -287,6 +294,10 @@ static void throw_arguments(void) {
     }
 }
 
+/* The small table's text. */
+static uint8_t good_text[1000];
+static size_t good_bytes;
+
 /* Every function once on the table in hand. The arguments are good ones of the table `kept` was made from, or (`bad`) such that a later
  * refusal would come if the table's did not. */
 static void throw_every(bool bad) {
@@ -294,6 +305,7 @@ static void throw_every(bool bad) {
     lent.x = lent.y = bad ? UINT32_MAX : 0;
     lent.size = 3;
     lend_list(bad ? bad_list : good_list, bad ? 0 : 2);
+    lend_text(good_text, bad ? 0 : good_bytes);
     for (int f = 0; f < COUNT_OF_FUNCTIONS; f++)
         throw_at(f, bad ? 0 : 16);
 }
@@ -374,17 +386,93 @@ static void throw_wrong_lengths(const uint32_t *table) {
     }
 }
 
+/* ---- Damaged text */
+
+static uint8_t whole[MOST_TEXT], damaged[MOST_TEXT + 2];
+static size_t whole_bytes;
+
+static void write_whole(void) {
+    judge(F_write_frames, &held, &lent, &verdict_is);
+    whole_bytes = verdict_is.listed;
+    memcpy(whole, verdict_is.out.text, whole_bytes);
+}
+
+static void throw_text(const uint8_t *text, size_t bytes) {
+    lend_text(text, bytes);
+    throw_at(F_read_frames, 0);
+}
+
+/* The text with `put` in place of the `gone` bytes at a place. */
+static void throw_spliced(size_t at, size_t gone, const void *put, size_t bytes) {
+    memcpy(damaged, whole, at);
+    memcpy(damaged + at, put, bytes);
+    memcpy(damaged + at + bytes, whole + at + gone, whole_bytes - at - gone);
+    throw_text(damaged, whole_bytes - gone + bytes);
+}
+
+/* A character at a place changed, left out, put in; the text cut off before it. */
+static void throw_characters(size_t at) {
+    const uint8_t others[] = {'0', '1', '9', 'A', 'F', 'G', 'a', 'f', '\n', '\r', ' ', 0, 255, (uint8_t)(whole[at] + 1), (uint8_t)(whole[at] - 1)};
+    for (size_t k = 0; k < sizeof others; k++)
+        throw_spliced(at, 1, others + k, 1);
+    throw_spliced(at, 1, "", 0);
+    throw_spliced(at, 0, "0", 1);
+    throw_spliced(at, 0, "\n", 1);
+    throw_text(whole, at);
+}
+
+static int digit_of(uint8_t c) { return c <= '9' ? c - '0' : c - 'A' + 10; }
+
+/* Adds to the byte at a place, and takes the same from the last byte of its line, so that the line's sum stays right. */
+static void throw_resealed(size_t at, size_t line_end, int more) {
+    const char *digits = "0123456789ABCDEF";
+    memcpy(damaged, whole, whole_bytes);
+    for (int k = 0; k < 2; k++) {
+        uint8_t *byte = damaged + (k == 0 ? at : line_end - 2);
+        int value = (16 * digit_of(byte[0]) + digit_of(byte[1]) + (k == 0 ? more : 256 - more)) % 256;
+        byte[0] = (uint8_t)digits[value / 16];
+        byte[1] = (uint8_t)digits[value % 16];
+    }
+    throw_text(damaged, whole_bytes);
+}
+
+/* The line left out, given twice, and each of its bytes changed. */
+static void throw_line(size_t begin, size_t end) {
+    static const int steps[] = {1, 2, 16, 31, 32, 33, 128, 240, 254, 255};
+    throw_spliced(begin, end + 1 - begin, "", 0);
+    throw_spliced(begin, 0, whole + begin, end + 1 - begin);
+    for (size_t at = begin; at + 2 < end; at += 2)
+        for (int k = 0; k < 10; k++)
+            throw_resealed(at, end, steps[k]);
+}
+
+static void throw_texts(const uint32_t *table) {
+    lend(table, TABLE);
+    write_whole();
+    throw_text(whole, whole_bytes);
+    throw_spliced(whole_bytes, 0, "0", 1);
+    throw_spliced(whole_bytes, 0, "\n", 1);
+    for (size_t at = 0; at < whole_bytes; at += whole_bytes > 9000 ? 199 : 1)
+        throw_characters(at);
+    for (size_t begin = 0, end = 0; begin < whole_bytes; begin = end + 1) {
+        for (end = begin; whole[end] != '\n';)
+            end++;
+        if (whole_bytes < 9000 || begin % 50 == 3)
+            throw_line(begin, end);
+    }
+}
+
 /* ---- The report */
 
 static int report(void) {
     uint64_t calls = 0, wrong = 0;
     printf("%-36s", "function \\ answer");
-    for (int k = 0; k < NUMBERS_OF_ANSWERS - 1; k++)
+    for (int k = 0; k < NUMBERS_OF_ANSWERS; k++)
         printf(" %7d", k);
     printf("  %s\n", "differing");
     for (int f = 0; f < COUNT_OF_FUNCTIONS; f++) {
         printf("%-36s", functions[f].name);
-        for (int k = 0; k < NUMBERS_OF_ANSWERS - 1; k++) {
+        for (int k = 0; k < NUMBERS_OF_ANSWERS; k++) {
             printf(" %7llu", (unsigned long long)counts[f][k]);
             calls += counts[f][k];
         }
@@ -405,8 +493,14 @@ int main(void) {
     memset(painted, PAINT, sizeof painted);
     table_end = memory(4 * 2 * TABLE);
     list_end = memory(4 * MOST_LIST);
+    text_end = memory(MOST_TEXT);
     out_end = memory(4 * MOST_WORDS);
     fill_all();
+    lend(small, TABLE);
+    write_whole();
+    good_bytes = whole_bytes;
+    memcpy(good_text, whole, good_bytes);
+    lend_text(good_text, good_bytes);
     for (size_t k = 0; k < sizeof tables / sizeof *tables; k++) {
         section = tables[k].name;
         lend(tables[k].table, TABLE);
@@ -415,6 +509,7 @@ int main(void) {
             return 2;
         }
         throw_arguments();
+        throw_texts(tables[k].table);
         throw_wrong_lengths(tables[k].table);
         if (k < 4) {
             throw_changed_heads(tables[k].table);
