@@ -5,7 +5,7 @@
 
 enum { ROOM = 140000 };
 
-static uint32_t full[WORDS], ascending[WORDS], nested[WORDS], out[ROOM];
+static uint32_t full[WORDS], ascending[WORDS], nested[WORDS], copy[WORDS], out[ROOM];
 static uint8_t text[ROOM];
 static const uint32_t pair[2] = {17, 18};
 
@@ -62,7 +62,9 @@ int main(void) {
     ANSWER("nestedness_profile", "nested lists", 0, 1500000, vs_get_nestedness_profile(nested, WORDS, out, ROOM));
     QUERY("dijkstra_connections_with_cost", 120000, vs_get_dijkstra_connections_with_cost(full, WORDS, V(0), V(255), out, ROOM));
     QUERY("dijkstra_from", 120000, vs_get_dijkstra_from(full, WORDS, V(0), out, ROOM));
+    const size_t bytes = vs_write_frames(full, WORDS, text, sizeof text).detail;
     QUERY("write_frames", 60000, vs_write_frames(full, WORDS, text, sizeof text));
+    QUERY("read_frames", 150000, vs_read_frames(copy, WORDS, text, bytes));
     QUERY("random_walk of 4,096 steps", 2500000, vs_random_walk(full, WORDS, V(0), 4096, 1, out, ROOM));
     return 0;
 }

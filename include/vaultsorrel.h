@@ -21,6 +21,8 @@
  *
  * Where a call is done, the detail is the number given (adds), 1 or 0 (yes or no), the count (degrees), the words or bytes
  * written (listings), else 0. A listing is written from the front of the slice, and the rest of the slice is kept.
+ *
+ * A call needs at most 192 KiB of stack (measured and added up from the frames: 155 KiB, bench/stack) and no other memory.
  */
 #ifndef VAULTSORREL_H
 #define VAULTSORREL_H

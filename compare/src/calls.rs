@@ -119,6 +119,12 @@ impl Both {
 
     /// Makes the edit on both sides: the two replies, and whether the tables are word by word the same after it.
     pub fn edit(&mut self, edit: &Edit) -> (Reply, Reply, bool) {
+        let (ours, rust) = self.replies(edit);
+        (ours, rust, self.table == oracle::words(&self.graph))
+    }
+
+    /// Makes the edit on both sides: the two replies.
+    pub fn replies(&mut self, edit: &Edit) -> (Reply, Reply) {
         let (t, g) = (&mut self.table, &mut self.graph);
         let (ours_is, rust) = match edit {
             Edit::AddVertex(w) => (vaultsorrel::add_vertex(t, *w), done(g.add_vertex(*w as usize).0 as u64)),
@@ -146,8 +152,7 @@ impl Both {
                 (vaultsorrel::clear(t), done(0))
             }
         };
-        let same = self.table == oracle::words(&self.graph);
-        (ours(ours_is, &self.out, false), rust, same)
+        (ours(ours_is, &self.out, false), rust)
     }
 
     pub fn ours(&mut self, query: &Query) -> Reply {

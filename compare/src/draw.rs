@@ -48,16 +48,16 @@ impl Draw {
         live[self.below(live.len() as u32) as usize].0 as u32
     }
 
-    fn members(&mut self, both: &Both, longest: u32) -> Vec<u32> {
+    fn live_members(&mut self, both: &Both, longest: u32) -> Vec<u32> {
         let n = if self.below(20) == 0 { 0 } else { 1 + self.below(longest) };
         (0..n).map(|_| self.live_vertex(both)).collect()
     }
 
     pub fn edit(&mut self, both: &Both, fresh: &mut u32) -> Edit {
         match self.below(20) {
-            0..=7 => Edit::AddHyperedge(self.members(both, 6), self.below(5)),
+            0..=7 => Edit::AddHyperedge(self.live_members(both, 6), self.below(5)),
             8..=10 => {
-                let members = self.members(both, 6);
+                let members = self.live_members(both, 6);
                 Edit::UpdateHyperedgeVertices(self.live_hyperedge(both), members)
             }
             11..=13 => Edit::RemoveHyperedge(self.live_hyperedge(both)),
@@ -67,8 +67,23 @@ impl Draw {
                 Edit::AddVertex(*fresh)
             }
             _ if self.below(30) == 0 => Edit::Clear,
-            _ => Edit::AddHyperedge(self.members(both, 32), self.below(3)),
+            _ => Edit::AddHyperedge(self.live_members(both, 32), self.below(3)),
         }
+    }
+
+    /// So many of the numbers; where the list is to ascend, each at most once.
+    pub fn members(&mut self, numbers: &[u32], count: usize, ascending: bool) -> Vec<u32> {
+        let mut list = Vec::new();
+        while list.len() < count {
+            let number = numbers[self.below(numbers.len() as u32) as usize];
+            if !ascending || !list.contains(&number) {
+                list.push(number);
+            }
+        }
+        if ascending {
+            list.sort_unstable();
+        }
+        list
     }
 
     /// A hyperedge of exactly that many members; ascending ones where no closed walk may come.

@@ -1,10 +1,14 @@
 //! Runs the proved code and the Rust on the same inputs and prints, for each function, how many answers were compared and how many
 //! differed; for each difference the smallest input that was found.
+mod bench;
 mod calls;
+mod differences;
 mod draw;
 mod oracle;
+mod record;
 
 use std::collections::BTreeMap;
+use std::path::Path;
 
 use calls::{Both, Edit, Query, name};
 use draw::Draw;
@@ -202,8 +206,8 @@ impl Run {
         self.everything(&mut both, &done, vertices, hyperedges);
     }
 
-    /// A long sequence of random edits on a table of about n vertices, the tables compared after each, with some queries.
-    fn sequence(&mut self, draw: &mut Draw, n: u32, edits_to_make: usize) {
+    /// A long sequence of random edits on a table of about n vertices, the tables compared after each; where asked, with some queries.
+    fn sequence(&mut self, draw: &mut Draw, n: u32, edits_to_make: usize, queries: bool) {
         let mut both = Both::new();
         let mut edits = Vec::new();
         for weight in 0..n {
@@ -213,30 +217,23 @@ impl Run {
         for _ in 0..edits_to_make {
             let edit = draw.edit(&both, &mut fresh);
             self.edit(&mut both, &mut edits, edit);
-            let v = draw.live_vertex(&both);
-            let w = draw.live_vertex(&both);
-            self.of_vertex(&mut both, &edits, v);
-            self.of_pair(&mut both, &edits, v, w);
-            self.of_weight(&mut both, &edits, draw.below(6));
-            let es: Vec<u32> = (0..draw.below(4)).map(|_| draw.live_hyperedge(&both)).collect();
-            self.query(&mut both, &edits, Query::GetHyperedgesIntersections(es));
-            self.whole(&mut both, &edits);
-            self.slow(&mut both, &edits);
+            if queries {
+                self.drawn(draw, &mut both, &edits);
+            }
         }
     }
 
-    /// A long sequence of random edits alone, the tables compared after each.
-    fn edits(&mut self, draw: &mut Draw, n: u32, edits_to_make: usize) {
-        let mut both = Both::new();
-        let mut edits = Vec::new();
-        for weight in 0..n {
-            self.edit(&mut both, &mut edits, Edit::AddVertex(1000 + weight));
-        }
-        let mut fresh = 1000 + n;
-        for _ in 0..edits_to_make {
-            let edit = draw.edit(&both, &mut fresh);
-            self.edit(&mut both, &mut edits, edit);
-        }
+    /// Every query, of vertices, hyperedges and weights that are drawn.
+    fn drawn(&mut self, draw: &mut Draw, both: &mut Both, edits: &[Edit]) {
+        let v = draw.live_vertex(both);
+        let w = draw.live_vertex(both);
+        self.of_vertex(both, edits, v);
+        self.of_pair(both, edits, v, w);
+        self.of_weight(both, edits, draw.below(6));
+        let es: Vec<u32> = (0..draw.below(4)).map(|_| draw.live_hyperedge(both)).collect();
+        self.query(both, edits, Query::GetHyperedgesIntersections(es));
+        self.whole(both, edits);
+        self.slow(both, edits);
     }
 
     /// A table built by additions alone, with walks.
@@ -278,7 +275,17 @@ fn all_lists(n: u32, longest: usize) -> Vec<Vec<u32>> {
 }
 
 fn main() {
-    let seed = std::env::args().nth(1).and_then(|s| s.parse().ok()).unwrap_or(1);
+    let words: Vec<String> = std::env::args().skip(1).collect();
+    let seed_at = |place: usize| words.get(place).and_then(|s| s.parse().ok()).unwrap_or(1);
+    match words.first().map(String::as_str) {
+        Some("bench") => bench::run(),
+        Some("differences") => differences::run(),
+        Some("record") => record::write(Path::new(&words[1]), seed_at(2)),
+        _ => compare(seed_at(0)),
+    }
+}
+
+fn compare(seed: u64) {
     let mut draw = Draw::new(seed);
     let mut run = Run {
         counts: BTreeMap::new(),
@@ -286,10 +293,10 @@ fn main() {
     };
     run.small();
     for round in 0..100 {
-        run.sequence(&mut draw, 3 + round % 12, 150);
+        run.sequence(&mut draw, 3 + round % 12, 150, true);
     }
     for round in 0..40 {
-        run.edits(&mut draw, 1 + 6 * round, 2500);
+        run.sequence(&mut draw, 1 + 6 * round, 2500, false);
     }
     for round in 0..300 {
         run.additions(&mut draw, 2 + round % 14, 1 + round % 11, 2 + round % 6, round % 3 == 0);

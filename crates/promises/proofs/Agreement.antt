@@ -1,9 +1,15 @@
 -- Any two results that keep an entry point's promise on the same input agree, for every entry point. Each theorem is about the reading
 -- that the check itself makes of the function's contract. Assumes nothing.
+use mathlib.Core.Path.{refl, sym, ap₂, _∙_}
 use mathlib.Core.List.{[]}
+use Prim.Native.Nat.{ℕ}
 use denote.Ref.{now}
 use Rattle.layout.proofs.Answers.{agree}
 use Rattle.promises.specs.Agreement.{Agrees}
+use Rattle.formed.proofs.well_formed.Kinds as well-formed
+use Rattle.formed.proofs.well_formed.Reads as well-formed-reads
+use Rattle.layout.proofs.reply_of.Kinds as reply-of
+use Rattle.layout.proofs.reply_of.Reads as reply-of-reads
 use Rattle.edits.proofs.add_vertex.add_vertex.Kinds as add-vertex
 use Rattle.edits.proofs.add_vertex.add_vertex.Reads as add-vertex-reads
 use Rattle.edits.proofs.add_hyperedge.add_hyperedge.Kinds as add-hyperedge
@@ -86,6 +92,15 @@ use Rattle.frames.proofs.write_frames.Kinds as write-frames
 use Rattle.frames.proofs.write_frames.Reads as write-frames-reads
 use Rattle.reader.proofs.read_frames.Kinds as read-frames
 use Rattle.reader.proofs.read_frames.Reads as read-frames-reads
+
+-- ---- the test of a table, and an answer's number and detail
+
+pub well-formed-agrees : Agrees 1 well-formed.ps well-formed.r well-formed-reads.Post (λ _ _. [])
+well-formed-agrees κs args a b x y p q = (p ∙ sym q, refl)
+
+pub reply-of-agrees : Agrees 0 reply-of.ps reply-of.r reply-of-reads.Post (λ _ _. [])
+reply-of-agrees κs args a b x y p q =
+    (ap₂ (λ (n d : ℕ). record { number = n; detail = d }) (p .0 ∙ sym (q .0)) (p .1 ∙ sym (q .1)), refl)
 
 -- ---- edits
 

@@ -28,6 +28,7 @@ pub record Judged (ws : List ℕ) (k p : ℕ) (firsts : List Bool) : Type 0 wher
   pub before : (j q : ℕ) → j < k → q < length (membersAt limit ws j) → getD firsts (cell j q) false ≡ isFirst (membersAt limit ws j) q
   pub here : (q : ℕ) → q < p → getD firsts (cell k q) false ≡ isFirst (membersAt limit ws k) q
 
+-- all places of all records are marked so
 abbrev pub Firsts : List ℕ → List Bool → Type 0
 Firsts ws firsts = Judged ws (hyperedgeCount ws) 0 firsts
 
@@ -53,9 +54,11 @@ pub record Rows (n : ℕ) (R : ℕ → List ℕ) (rows counts : List ℕ) : Type
   pub many : (i : ℕ) → i < n → getD counts i 0 ≡ length (R i)
   pub entry : (i q : ℕ) → i < n → q < length (R i) → getD rows (cell i q) 0 ≡ getD (R i) q 0
 
+-- the rows while the first p members of record k are entered
 abbrev pub Entering : List ℕ → ℕ → ℕ → List ℕ → List ℕ → Type 0
 Entering ws k p = Rows (vertexCount ws) (entering ws k p)
 
+-- the rows where the first k records are entered
 abbrev pub Listers : List ℕ → ℕ → List ℕ → List ℕ → Type 0
 Listers ws k = Rows (vertexCount ws) (listers ws k)
 
@@ -70,6 +73,7 @@ pub record Laid (ws : List ℕ) (firsts : List Bool) (rows counts : List ℕ) : 
 
 -- ---- the draw among the records at the places js
 
+-- the records themselves
 abbrev pub recordsAt : List ℕ → List ℕ → List Hyperedge
 recordsAt ws js = map (hyperedgeAt limit ws) js
 

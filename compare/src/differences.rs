@@ -1,0 +1,113 @@
+//! Inputs outside the domain on which the two differ: both sides are run and what each says is printed.
+use hypergraph::HypergraphQuery;
+
+use crate::calls::{Both, Edit, Query};
+use crate::oracle::Reply;
+
+enum Last {
+    Edit(Edit),
+    Query(Query),
+}
+
+fn say(what: &str, ours: &Reply, rust: &Reply) {
+    let text = |r: &Reply| match r.words.len() {
+        0..=20 => format!("answer {} {} {:?}", r.number, r.detail, r.words),
+        n => format!("answer {} {} of {n} words", r.number, r.detail),
+    };
+    println!("{what}\n  Rust {}\n  here {}", text(rust), text(ours));
+}
+
+fn run_one(what: &str, edits: &[Edit], last: Last) {
+    let mut both = Both::new();
+    for edit in edits {
+        both.replies(edit);
+    }
+    let (ours, rust) = match last {
+        Last::Edit(edit) => both.replies(&edit),
+        Last::Query(query) => (both.ours(&query), both.rust(&query)),
+    };
+    say(what, &ours, &rust);
+}
+
+fn vertices(n: u32) -> Vec<Edit> {
+    (0..n).map(|v| Edit::AddVertex(v + 1)).collect()
+}
+
+/// So many vertices, then hyperedges of a list and a weight each, then further edits.
+fn table(n: u32, lists: &[(&[u32], u32)], further: &[Edit]) -> Vec<Edit> {
+    let lists = lists.iter().map(|(list, weight)| Edit::AddHyperedge(list.to_vec(), *weight));
+    vertices(n).into_iter().chain(lists).chain(further.iter().cloned()).collect()
+}
+
+/// Vertices in no hyperedge, in the order in which the Rust has them.
+fn orphans_in_order() {
+    let mut both = Both::new();
+    for edit in table(3, &[], &[Edit::RemoveVertex(0)]) {
+        both.replies(&edit);
+    }
+    let rust = both.graph.get_orphan_vertices().expect("a list");
+    let numbers: Vec<_> = rust.iter().map(|v| v.0).collect();
+    let ours = both.ours(&Query::GetOrphanVertices).words;
+    println!("three vertices, remove 0; orphan vertices\n  Rust {numbers:?}\n  here {ours:?}");
+}
+
+fn limits() {
+    run_one("the 257th vertex", &vertices(256), Last::Edit(Edit::AddVertex(0)));
+    let full: Vec<(&[u32], u32)> = (0..192).map(|weight| (&[0][..], weight)).collect();
+    run_one(
+        "the 193rd hyperedge",
+        &table(1, &full, &[]),
+        Last::Edit(Edit::AddHyperedge(vec![0], 192)),
+    );
+    run_one(
+        "a list of 33 members",
+        &vertices(1),
+        Last::Edit(Edit::AddHyperedge(vec![0; 33], 0)),
+    );
+    run_one(
+        "a walk of 4,097 steps",
+        &vertices(1),
+        Last::Query(Query::RandomWalk(0, 4097, 1)),
+    );
+}
+
+/// Where updates and removals change the order of the Rust's maps.
+fn map_order() {
+    orphans_in_order();
+    let moved = [Edit::UpdateHyperedgeVertices(2, vec![0]), Edit::RemoveHyperedge(0)];
+    run_one(
+        "[1], [0], [0,0], all weight 0, update 2 to [0], remove 0; add [0] weight 0",
+        &table(2, &[(&[1], 0), (&[0], 0), (&[0, 0], 0)], &moved),
+        Last::Edit(Edit::AddHyperedge(vec![0], 0)),
+    );
+    let moved = [Edit::UpdateHyperedgeVertices(0, vec![0, 1])];
+    run_one(
+        "[1], [0,2], both weight 1, update 0 to [0,1]; a walk from 0 of 3 steps, seed 1",
+        &table(3, &[(&[1], 1), (&[0, 2], 1)], &moved),
+        Last::Query(Query::RandomWalk(0, 3, 1)),
+    );
+    run_one(
+        "[1], [0,1], both weight 1, update 0 to [0,1]; path 0 to 1",
+        &table(2, &[(&[1], 1), (&[0, 1], 1)], &moved),
+        Last::Query(Query::GetDijkstraConnectionsWithCost(0, 1)),
+    );
+}
+
+fn paths() {
+    run_one(
+        "[0,1,3], [0,2,3], both weight 1; path 0 to 3",
+        &table(4, &[(&[0, 1, 3], 1), (&[0, 2, 3], 1)], &[]),
+        Last::Query(Query::GetDijkstraConnectionsWithCost(0, 3)),
+    );
+    run_one(
+        "[0,2,3] weight 0, [3,1] weight 2, [0,4,1] weight 1; path 0 to 1",
+        &table(5, &[(&[0, 2, 3], 0), (&[3, 1], 2), (&[0, 4, 1], 1)], &[]),
+        Last::Query(Query::GetDijkstraConnectionsWithCost(0, 1)),
+    );
+}
+
+pub fn run() {
+    limits();
+    map_order();
+    paths();
+}

@@ -1,0 +1,46 @@
+-- `replay::judge::sum_of_bytes` is safe and ends.
+use Prim.Native.Nat.{_≤_, _-_}
+use borrow.Author.Needs.{needs}
+use Rattle.replay.proofs.judge.sum_of_bytes.Statement.{statement}
+use Rattle.replay.proofs.judge.sum_of_bytes.Tie as tie
+
+abbrev Inv-loop : tie.InvT-loop
+Inv-loop s n sum₀ k₀ sum k = k ≤ n
+
+abbrev μ-loop : tie.MeasureT-loop
+μ-loop s n sum₀ k₀ sum k = n - k
+
+loop-holds : tie.Need-loop-holds Inv-loop μ-loop
+loop-holds c = search needs
+
+byte-requires : tie.Need-byte-requires Inv-loop μ-loop
+byte-requires c κs = search needs
+
+mix-requires : tie.Need-mix-requires Inv-loop μ-loop
+mix-requires c κs = search needs
+
+add-k : tie.Need-add-k Inv-loop μ-loop
+add-k c = search needs
+
+loop-less : tie.Need-loop-less Inv-loop μ-loop
+loop-less c = search needs
+
+loop-again : tie.Need-loop-again Inv-loop μ-loop
+loop-again c = search needs
+
+returns : tie.Need-returns Inv-loop μ-loop
+returns c = search needs
+
+pub sum-of-bytes-spec : {M : Type 1} → statement M
+sum-of-bytes-spec =
+    tie.close
+    (tie.spec
+    Inv-loop
+    μ-loop
+    loop-holds
+    byte-requires
+    mix-requires
+    add-k
+    loop-less
+    loop-again
+    returns)

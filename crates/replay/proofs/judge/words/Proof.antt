@@ -1,0 +1,46 @@
+-- `replay::judge::words` is safe and ends.
+use Prim.Native.Nat.{_≤_, _-_}
+use borrow.Author.Needs.{needs}
+use Rattle.replay.proofs.judge.words.Statement.{statement}
+use Rattle.replay.proofs.judge.words.Tie as tie
+
+abbrev Inv-loop : tie.InvT-loop
+Inv-loop s at out n here₀ same₀ k₀ here same k = k ≤ n
+
+abbrev μ-loop : tie.MeasureT-loop
+μ-loop s at out n here₀ same₀ k₀ here same k = n - k
+
+loop-holds : tie.Need-loop-holds Inv-loop μ-loop
+loop-holds c = search needs
+
+word-requires : tie.Need-word-requires Inv-loop μ-loop
+word-requires c κs = search needs
+
+word-of-requires : tie.Need-word-of-requires Inv-loop μ-loop
+word-of-requires c κs = search needs
+
+add-k : tie.Need-add-k Inv-loop μ-loop
+add-k c = search needs
+
+loop-less : tie.Need-loop-less Inv-loop μ-loop
+loop-less c = search needs
+
+loop-again : tie.Need-loop-again Inv-loop μ-loop
+loop-again c = search needs
+
+returns : tie.Need-returns Inv-loop μ-loop
+returns c = search needs
+
+pub words-spec : {M : Type 1} → statement M
+words-spec =
+    tie.close
+    (tie.spec
+    Inv-loop
+    μ-loop
+    loop-holds
+    word-requires
+    word-of-requires
+    add-k
+    loop-less
+    loop-again
+    returns)

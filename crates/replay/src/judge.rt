@@ -1,0 +1,138 @@
+// Holds an answer against the recorded one.
+use crate::reading;
+use crate::tally;
+use layout::Answer;
+use layout::Reply;
+
+// A listing of more words than this is recorded by their sum.
+pub const LONG: u32 = 16;
+
+// A recorded answer, and the place after it.
+pub struct Recorded {
+    pub number: u32,
+    pub detail: u32,
+    pub at: usize,
+}
+
+// A byte below 240 is answer 0 with that detail; another one is 240 more than the answer's number, and the detail follows as a word.
+pub fn given(s: &[u8], at: usize) -> Recorded {
+    let first = reading::byte(s, at);
+    if first.value < 240 {
+        return Recorded {
+            number: 0,
+            detail: first.value,
+            at: first.at,
+        };
+    }
+    let detail = reading::word(s, first.at);
+    Recorded {
+        number: first.value - 240,
+        detail: detail.value,
+        at: detail.at,
+    }
+}
+
+pub fn same_reply(r: Reply, g: Recorded) -> bool {
+    r.number == g.number && r.detail == g.detail as u64
+}
+
+// An answer without a listing.
+pub fn answer(s: &[u8], at: usize, a: Answer, f: usize, tally: &mut [u32]) -> usize {
+    let g = given(s, at);
+    tally::count(tally, f, same_reply(layout::reply_of(a), g));
+    g.at
+}
+
+// ---- listings
+
+pub fn word_of(out: &[u32], k: usize) -> u32 {
+    if k < out.len() {
+        return out[k];
+    }
+    0
+}
+
+// Whether what was recorded is what is there, and the place after it.
+pub struct Held {
+    pub same: bool,
+    pub at: usize,
+}
+
+fn words(s: &[u8], at: usize, out: &[u32], n: usize) -> Held {
+    let mut here = at;
+    let mut same = true;
+    for k in 0..n {
+        let w = reading::word(s, here);
+        if w.value != word_of(out, k) {
+            same = false;
+        }
+        here = w.at;
+    }
+    Held { same, at: here }
+}
+
+// The sum before the first word.
+pub const START: u64 = 11400714819323198485;
+
+// The sum after one word more.
+pub fn mix(sum: u64, word: u32) -> u64 {
+    let x = std::num::wrapping_add_u64(sum, word as u64);
+    let a = x ^ (x << 13);
+    let b = a ^ (a >> 7);
+    b ^ (b << 17)
+}
+
+// The sum of the first n words.
+pub fn sum(out: &[u32], n: usize) -> u64 {
+    let mut sum = START;
+    for k in 0..n {
+        sum = mix(sum, word_of(out, k));
+    }
+    sum
+}
+
+// The sum of the first n bytes.
+pub fn sum_of_bytes(s: &[u8], n: usize) -> u64 {
+    let mut sum = START;
+    for k in 0..n {
+        let b = reading::byte(s, k);
+        sum = mix(sum, b.value);
+    }
+    sum
+}
+
+pub fn summed(s: &[u8], at: usize, sum: u64) -> Held {
+    let x = reading::eight(s, at);
+    Held {
+        same: x.value == sum,
+        at: x.at,
+    }
+}
+
+// The smaller of the two.
+pub fn at_most(a: usize, b: usize) -> usize {
+    if a < b {
+        return a;
+    }
+    b
+}
+
+fn listed(s: &[u8], at: usize, out: &[u32], n: u32) -> Held {
+    if n > LONG {
+        return summed(s, at, sum(out, at_most(n as usize, out.len())));
+    }
+    words(s, at, out, n as usize)
+}
+
+// An answer with the listing that it wrote.
+pub fn listing(s: &[u8], at: usize, a: Answer, out: &[u32], f: usize, tally: &mut [u32]) -> usize {
+    let g = given(s, at);
+    let same = same_reply(layout::reply_of(a), g);
+    if g.number != 0 {
+        tally::count(tally, f, same);
+        return g.at;
+    }
+    let h = listed(s, g.at, out, g.detail);
+    tally::count(tally, f, same && h.same);
+    h.at
+}

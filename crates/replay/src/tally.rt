@@ -1,0 +1,62 @@
+// How many answers of each function were compared and how many differ. A tally's first half counts the compared ones, its second half
+// those that differ, each by the function's place.
+use libc::STDOUT_FILENO;
+
+fn more(tally: &mut [u32], i: usize) {
+    if i < tally.len() {
+        tally[i] = std::num::wrapping_add_u32(tally[i], 1);
+    }
+}
+
+pub fn count(tally: &mut [u32], f: usize, same: bool) {
+    let half = tally.len() / 2;
+    if f < half {
+        more(tally, f);
+        if !same {
+            more(tally, half + f);
+        }
+    }
+}
+
+// The sum of the n counts from a on.
+fn total(tally: &[u32], a: usize, n: usize) -> u32 {
+    let mut sum: u32 = 0;
+    for k in 0..n {
+        sum = std::num::wrapping_add_u32(sum, at(tally, std::num::wrapping_add_usize(a, k)));
+    }
+    sum
+}
+
+fn at(tally: &[u32], i: usize) -> u32 {
+    if i < tally.len() {
+        return tally[i];
+    }
+    0
+}
+
+pub fn compared(tally: &[u32]) -> u32 {
+    total(tally, 0, tally.len() / 2)
+}
+
+fn say(name: &[u8], compared: u32, differing: u32) {
+    io::write_all(STDOUT_FILENO, name);
+    io::write_all(STDOUT_FILENO, b": ");
+    io::print_decimal(STDOUT_FILENO, compared as u64);
+    io::write_all(STDOUT_FILENO, b" compared, ");
+    io::print_decimal(STDOUT_FILENO, differing as u64);
+    io::write_all(STDOUT_FILENO, b" differ\n");
+}
+
+// A line for the function of place f.
+pub fn line(name: &[u8], f: usize, tally: &[u32]) {
+    let half = tally.len() / 2;
+    if f < half {
+        say(name, at(tally, f), at(tally, half + f));
+    }
+}
+
+// The line of all functions.
+pub fn all(tally: &[u32]) {
+    let half = tally.len() / 2;
+    say(b"all", compared(tally), total(tally, half, half));
+}

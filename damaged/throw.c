@@ -1,0 +1,520 @@
+/* Throws damaged input at every function of the header and holds each answer against the judge's: number, detail, the table's
+ * words, the answer slice's words. The slices that are lent end where the memory ends, so that a word too far is a fault. */
+#define _DEFAULT_SOURCE
+#include <stdio.h>
+#include <stdlib.h>
+#include <string.h>
+#include <sys/mman.h>
+#include <unistd.h>
+#include "judge.h"
+#include "tables.h"
+
+enum { MARGIN = 64, PAINT = 0xA5, NUMBERS_OF_ANSWERS = 13, MOST_SHOWN = 20, MOST_LIST = 8000, MOST_TEXT = 80000, LONGEST_TRIED = 400 };
+
+static uint64_t counts[COUNT_OF_FUNCTIONS][NUMBERS_OF_ANSWERS], differing[COUNT_OF_FUNCTIONS];
+static int shown;
+static const char *section;
+
+/* ---- Lent memory */
+
+static uint8_t *table_end, *list_end, *text_end, *out_end;
+static uint8_t painted[4 * MOST_WORDS + MARGIN];
+
+/* The end of so many bytes behind which no memory is. */
+static uint8_t *memory(size_t bytes) {
+    size_t page = (size_t)sysconf(_SC_PAGESIZE), size = (bytes + MARGIN + page - 1) / page * page;
+    uint8_t *at = mmap(NULL, size + page, PROT_READ | PROT_WRITE, MAP_PRIVATE | MAP_ANONYMOUS, -1, 0);
+    if (at == MAP_FAILED || mprotect(at + size, page, PROT_NONE) != 0) {
+        perror("memory");
+        exit(2);
+    }
+    memset(at, PAINT, size);
+    return at + size;
+}
+
+/* ---- A table that is lent, and what it holds */
+
+static uint32_t kept[2 * TABLE];
+static arguments lent;
+static content held;
+
+static void place_table(void) { memcpy(lent.table, kept, 4 * lent.words); }
+
+static void lend(const uint32_t *table, size_t words) {
+    memset(kept, 0, sizeof kept);
+    memcpy(kept, table, 4 * (words < TABLE ? words : TABLE));
+    lent.words = words;
+    lent.table = (uint32_t *)(table_end - 4 * words);
+    memset((uint8_t *)lent.table - MARGIN, PAINT, MARGIN);
+    place_table();
+    judge_table(lent.table, words, &held);
+}
+
+static void lend_list(const uint32_t *list, size_t count) {
+    lent.list = (uint32_t *)(list_end - 4 * count);
+    lent.count = count;
+    if (count > 0)
+        memcpy(list_end - 4 * count, list, 4 * count);
+}
+
+static void lend_text(const uint8_t *text, size_t bytes) {
+    lent.text = text_end - bytes;
+    lent.bytes = bytes;
+    if (bytes > 0)
+        memcpy(text_end - bytes, text, bytes);
+}
+
+/* ---- A call, held against the verdict */
+
+static verdict verdict_is;
+
+static bool same_table(bool done) {
+    const uint32_t *expected = done && verdict_is.changed ? verdict_is.table : kept;
+    return memcmp(lent.table, expected, 4 * lent.words) == 0 && memcmp((uint8_t *)lent.table - MARGIN, painted, MARGIN) == 0;
+}
+
+static bool same_out(size_t written, size_t room) {
+    const uint8_t *out = lent.out;
+    return memcmp(out, verdict_is.out.text, written) == 0 && memcmp(out + written, painted, room - written) == 0 &&
+           memcmp(out - MARGIN, painted, MARGIN) == 0;
+}
+
+static void show(int f, vs_reply r, uint32_t number, uint64_t detail, bool table, bool out) {
+    if (shown++ < MOST_SHOWN)
+        printf("%s: %s x=%u y=%u count=%zu size=%zu room=%zu: %u, %llu; expected %u, %llu; table %s, slice %s\n", section,
+               functions[f].name, lent.x, lent.y, lent.count, lent.size, lent.room, r.number, (unsigned long long)r.detail, number,
+               (unsigned long long)detail, table ? "right" : "wrong", out ? "right" : "wrong");
+}
+
+/* The call with an answer slice of that length, after the verdict was given. */
+static void throw_with_room(int f, size_t room) {
+    size_t unit = functions[f].takes & TEXT ? 1 : 4;
+    bool lists = functions[f].takes & (OUT | TEXT);
+    bool fits = verdict_is.number == 0 && verdict_is.listed <= room;
+    uint32_t number = lists && verdict_is.number == 0 && !fits ? 11 : verdict_is.number;
+    uint64_t detail = number == 11 ? verdict_is.listed : verdict_is.detail;
+    lent.out = out_end - unit * room;
+    lent.room = room;
+    vs_reply r = functions[f].call(&lent);
+    size_t written = number == 0 ? unit * verdict_is.listed : 0;
+    bool table = same_table(number == 0), out = same_out(written, unit * room);
+    if (r.number != number || r.detail != detail || !table || !out) {
+        differing[f]++;
+        show(f, r, number, detail, table, out);
+    }
+    counts[f][number]++;
+    if (!out || written > 0)
+        memset((uint8_t *)lent.out - MARGIN, PAINT, (out ? written : unit * room) + MARGIN);
+    if (!table || verdict_is.changed)
+        place_table();
+}
+
+static void throw_at(int f, size_t room) {
+    judge(f, &held, &lent, &verdict_is);
+    throw_with_room(f, room);
+}
+
+/* The call with slices too short, exact and longer: every length up to a bound, and those close to what is needed. */
+static void throw_with_rooms(int f) {
+    judge(f, &held, &lent, &verdict_is);
+    size_t needed = verdict_is.listed;
+    if (verdict_is.number != 0 || !(functions[f].takes & (OUT | TEXT))) {
+        throw_with_room(f, 0);
+        throw_with_room(f, 9);
+        return;
+    }
+    for (size_t room = 0; room < needed && room < LONGEST_TRIED; room++)
+        throw_with_room(f, room);
+    if (needed > LONGEST_TRIED) {
+        throw_with_room(f, needed / 2);
+        throw_with_room(f, needed - 1);
+    }
+    throw_with_room(f, needed);
+    throw_with_room(f, needed + 1);
+    throw_with_room(f, needed + 100);
+}
+
+/* ---- Tables: small, full, full without closed walks, empty, with gaps, with no number left, with many paths of one cost */
+
+static uint32_t small[TABLE], full[TABLE], forward[TABLE], empty[TABLE], gapped[TABLE], spent[TABLE], ties[TABLE];
+
+/* So many vertices and hyperedges, with numbers that lie 1 to `gap` apart, and lists of 1 to `longest` members, of vertices one after the
+ * other where no steps may form a closed walk. */
+static void fill_part(uint32_t *t, uint32_t n, uint32_t m, uint32_t gap, uint32_t longest, bool acyclic) {
+    for (uint32_t i = 0, x = 0; i < n; i++, x += 1 + draw() % gap) {
+        t[4 + 2 * i] = x;
+        t[5 + 2 * i] = draw() % 9;
+        t[0] = x + 1 + draw() % gap;
+    }
+    for (uint32_t j = 0, e = 0; j < m; j++, e += 1 + draw() % gap) {
+        uint32_t *record = t + 516 + 35 * j;
+        record[0] = e;
+        record[1] = draw() % 5;
+        record[2] = 1 + draw() % longest;
+        uint32_t first = draw() % (n - longest);
+        for (uint32_t i = 0; i < record[2]; i++)
+            record[3 + i] = t[4 + 2 * (acyclic ? first + i : draw() % n)];
+        t[1] = e + 1 + draw() % gap;
+    }
+    t[2] = n;
+    t[3] = m;
+}
+
+static void fill_all(void) {
+    fill_part(small, 8, 6, 1, 5, false);
+    fill_part(gapped, 40, 30, 9, 32, false);
+    fill_part(spent, 20, 12, 3, 4, true);
+    spent[0] = spent[1] = UINT32_MAX;
+    fill_part(ties, 30, 90, 2, 4, false);
+    for (int j = 0; j < 90; j++)
+        ties[516 + 35 * j + 1] = 1;
+    fill_dense(full);
+    fill_ascending(forward);
+}
+
+/* ---- Arguments */
+
+/* Numbers to ask for: live ones, one below the next that is not live (if there is one), the next, the one after it, the greatest. */
+static int numbers_of(const uint32_t *live, int count, uint32_t next, uint32_t *out) {
+    int some = 0;
+    for (int i = 0; i < count; i++)
+        if (count <= 8 || i < 2 || i == count / 2 || i == count - 1)
+            out[some++] = live[i];
+    for (uint32_t x = 0; x < next && x <= (uint32_t)count; x++) {
+        bool is_live = false;
+        for (int i = 0; i < count; i++)
+            is_live |= live[i] == x;
+        if (!is_live) {
+            out[some++] = x;
+            break;
+        }
+    }
+    out[some++] = next;
+    out[some++] = next + 1;
+    out[some++] = UINT32_MAX;
+    return some;
+}
+
+static uint32_t vertices[16], hyperedges[16];
+static int vertices_asked, hyperedges_asked;
+
+static void choose_numbers(void) {
+    vertices_asked = numbers_of(held.vertex, held.n, held.next_vertex, vertices);
+    hyperedges_asked = numbers_of(held.hyperedge, held.m, held.next_hyperedge, hyperedges);
+}
+
+/* The calls that the list in hand takes part in. */
+static void throw_list(int f) {
+    const uint32_t *xs = functions[f].takes & HYPEREDGE ? hyperedges : vertices;
+    int count = functions[f].takes & HYPEREDGE ? hyperedges_asked : 1;
+    if (functions[f].takes & OUT) {
+        throw_with_rooms(f);
+        return;
+    }
+    for (int k = 0; k < count; k++) {
+        lent.x = xs[k];
+        throw_at(f, 0);
+    }
+}
+
+/* Lists of live numbers of many lengths; each with a missing number at each place, and with a second one behind it. */
+static void throw_lists(int f) {
+    static const size_t lengths[] = {0, 1, 2, 3, 4, 16, 31, 32, 33, 34, 191, 192, 193, 256, 257, 7236, MOST_LIST};
+    static uint32_t list[MOST_LIST];
+    bool of_vertices = functions[f].takes & MEMBERS_LIST;
+    const uint32_t *live = of_vertices ? held.vertex : held.hyperedge, *asked = of_vertices ? vertices : hyperedges;
+    int n = of_vertices ? held.n : held.m, all = of_vertices ? vertices_asked : hyperedges_asked;
+    for (size_t k = 0; k < sizeof lengths / sizeof *lengths; k++) {
+        for (size_t i = 0; i < lengths[k]; i++)
+            list[i] = n == 0 ? 0 : live[(i * 7 + k) % (size_t)n];
+        lend_list(list, lengths[k]);
+        throw_list(f);
+        for (size_t i = 0; i < lengths[k] && i < 40; i++)
+            for (int missing = 1; missing <= 3 && missing <= all; missing += 2) {
+                list[i] = asked[all - missing];
+                list[lengths[k] - 1] = i + 1 < lengths[k] ? UINT32_MAX - 1 : list[i];
+                lend_list(list, lengths[k]);
+                throw_list(f);
+                list[i] = list[lengths[k] - 1] = n == 0 ? 0 : live[0];
+            }
+    }
+}
+
+/* The lists that the table has, with the weight they have and another: identical adds, unchanged updates. */
+static void throw_own_lists(int f) {
+    for (int j = 0; j < held.m; j++) {
+        const uint32_t *record = kept + 516 + 35 * j;
+        lend_list(record + 3, record[2]);
+        lent.x = functions[f].takes & HYPEREDGE ? record[0] : record[1];
+        throw_with_rooms(f);
+        lent.x++;
+        throw_with_rooms(f);
+    }
+}
+
+static void throw_sizes(int f) {
+    static const size_t sizes[] = {0, 1, 2, 3, 5, 31, 32, 33, 4095, 4096, 4097, 4294967296u, SIZE_MAX};
+    static const uint64_t seeds[] = {0, 1, 7650297886450228676u, 18097393005032713128u, UINT64_MAX};
+    for (size_t k = 0; k < sizeof sizes / sizeof *sizes; k++) {
+        lent.size = sizes[k];
+        lent.seed = seeds[k % 5];
+        if (lent.size <= 33)
+            throw_with_rooms(f);
+        else {
+            throw_at(f, 0);
+            throw_at(f, 4096);
+            throw_at(f, 4097);
+            throw_at(f, 4200);
+        }
+    }
+}
+
+/* Every function with every kind of argument on the table in hand. */
+static void throw_arguments(void) {
+    choose_numbers();
+    for (int f = 0; f < COUNT_OF_FUNCTIONS; f++) {
+        int takes = functions[f].takes;
+        const uint32_t *xs = takes & HYPEREDGE ? hyperedges : vertices;
+        int some = takes & HYPEREDGE ? hyperedges_asked : takes & (VERTEX | WEIGHT) ? vertices_asked : 1;
+        if (takes & (MEMBERS_LIST | HYPEREDGES_LIST)) {
+            throw_lists(f);
+            if (takes & MEMBERS_LIST)
+                throw_own_lists(f);
+            continue;
+        }
+        for (int k = 0; k < some; k++)
+            for (int l = 0; l < (takes & SECOND ? vertices_asked : 1); l++) {
+                lent.x = xs[k];
+                lent.y = vertices[l];
+                if (takes & (SIZE | WALK))
+                    throw_sizes(f);
+                else
+                    throw_with_rooms(f);
+            }
+    }
+}
+
+/* The small table's text. */
+static uint8_t good_text[1000];
+static size_t good_bytes;
+
+/* Every function once on the table in hand. The arguments are good ones of the table `kept` was made from, or (`bad`) such that a later
+ * refusal would come if the table's did not. */
+static void throw_every(bool bad) {
+    static const uint32_t good_list[] = {0, 0}, bad_list[] = {UINT32_MAX, UINT32_MAX};
+    lent.x = lent.y = bad ? UINT32_MAX : 0;
+    lent.size = 3;
+    lend_list(bad ? bad_list : good_list, bad ? 0 : 2);
+    lend_text(good_text, bad ? 0 : good_bytes);
+    for (int f = 0; f < COUNT_OF_FUNCTIONS; f++)
+        throw_at(f, bad ? 0 : 16);
+}
+
+/* ---- Damage */
+
+static void lend_changed(const uint32_t *table, int word, uint32_t value) {
+    static uint32_t changed[TABLE];
+    memcpy(changed, table, sizeof changed);
+    changed[word] = value;
+    lend(changed, TABLE);
+}
+
+/* The limit of what a word may hold. */
+static uint32_t limit_of(const uint32_t *t, int word) {
+    if (word < 4)
+        return word < 2 ? UINT32_MAX - 1 : word == 2 ? MOST_VERTICES : MOST_HYPEREDGES;
+    if (word < 516)
+        return t[0];
+    int field = (word - 516) % 35;
+    return field == 0 ? t[1] : field == 2 ? MOST_MEMBERS : t[0];
+}
+
+/* A changed table that is still well formed: all functions on a small one, else the test alone and the functions in turn. */
+static void throw_still_formed(bool all, unsigned turn) {
+    if (all) {
+        throw_every(false);
+        return;
+    }
+    throw_at(F_is_empty, 0);
+    lend_list(held.hyperedge, 2);
+    lent.x = held.n > 0 ? held.vertex[turn % (unsigned)held.n] : 0;
+    throw_at((int)(turn % COUNT_OF_FUNCTIONS), turn % 2 ? MOST_WORDS : 16);
+}
+
+/* Each word in turn, changed to several values. */
+static void throw_changed_words(const uint32_t *table, bool all) {
+    static unsigned turn;
+    for (int word = 0; word < TABLE; word++) {
+        uint32_t was = table[word], limit = limit_of(table, word);
+        uint32_t values[] = {0, was + 1, was - 1, limit, limit + 1, UINT32_MAX};
+        for (int k = 0; k < 6; k++) {
+            bool again = values[k] == was;
+            for (int l = 0; l < k; l++)
+                again |= values[l] == values[k];
+            if (again)
+                continue;
+            lend_changed(table, word, values[k]);
+            if (held.formed)
+                throw_still_formed(all, turn++);
+            else
+                throw_every(word % 2);
+        }
+    }
+}
+
+/* The four words of the head changed together. */
+static void throw_changed_heads(const uint32_t *table) {
+    static uint32_t changed[TABLE];
+    static const uint32_t steps[] = {0, 1, UINT32_MAX, 256, UINT32_MAX / 2};
+    memcpy(changed, table, sizeof changed);
+    for (int k = 0; k < 625; k++) {
+        int rest = k;
+        for (int word = 0; word < 4; word++, rest /= 5)
+            changed[word] = table[word] + steps[rest % 5];
+        lend(changed, TABLE);
+        if (!held.formed)
+            throw_every(k % 2);
+    }
+}
+
+static void throw_wrong_lengths(const uint32_t *table) {
+    static const size_t lengths[] = {0, 1, 2, 3, 4, 5, 515, 516, 517, 551, 7200, 7201, 7234, 7235, 7237, 7271, 14472};
+    for (size_t k = 0; k < sizeof lengths / sizeof *lengths; k++) {
+        lend(table, lengths[k]);
+        throw_every(false);
+        throw_every(true);
+    }
+}
+
+/* ---- Damaged text */
+
+static uint8_t whole[MOST_TEXT], damaged[MOST_TEXT + 2];
+static size_t whole_bytes;
+
+static void write_whole(void) {
+    judge(F_write_frames, &held, &lent, &verdict_is);
+    whole_bytes = verdict_is.listed;
+    memcpy(whole, verdict_is.out.text, whole_bytes);
+}
+
+static void throw_text(const uint8_t *text, size_t bytes) {
+    lend_text(text, bytes);
+    throw_at(F_read_frames, 0);
+}
+
+/* The text with `put` in place of the `gone` bytes at a place. */
+static void throw_spliced(size_t at, size_t gone, const void *put, size_t bytes) {
+    memcpy(damaged, whole, at);
+    memcpy(damaged + at, put, bytes);
+    memcpy(damaged + at + bytes, whole + at + gone, whole_bytes - at - gone);
+    throw_text(damaged, whole_bytes - gone + bytes);
+}
+
+/* A character at a place changed, left out, put in; the text cut off before it. */
+static void throw_characters(size_t at) {
+    const uint8_t others[] = {'0', '1', '9', 'A', 'F', 'G', 'a', 'f', '\n', '\r', ' ', 0, 255, (uint8_t)(whole[at] + 1), (uint8_t)(whole[at] - 1)};
+    for (size_t k = 0; k < sizeof others; k++)
+        throw_spliced(at, 1, others + k, 1);
+    throw_spliced(at, 1, "", 0);
+    throw_spliced(at, 0, "0", 1);
+    throw_spliced(at, 0, "\n", 1);
+    throw_text(whole, at);
+}
+
+static int digit_of(uint8_t c) { return c <= '9' ? c - '0' : c - 'A' + 10; }
+
+/* Adds to the byte at a place, and takes the same from the last byte of its line, so that the line's sum stays right. */
+static void throw_resealed(size_t at, size_t line_end, int more) {
+    const char *digits = "0123456789ABCDEF";
+    memcpy(damaged, whole, whole_bytes);
+    for (int k = 0; k < 2; k++) {
+        uint8_t *byte = damaged + (k == 0 ? at : line_end - 2);
+        int value = (16 * digit_of(byte[0]) + digit_of(byte[1]) + (k == 0 ? more : 256 - more)) % 256;
+        byte[0] = (uint8_t)digits[value / 16];
+        byte[1] = (uint8_t)digits[value % 16];
+    }
+    throw_text(damaged, whole_bytes);
+}
+
+/* The line left out, given twice, and each of its bytes changed. */
+static void throw_line(size_t begin, size_t end) {
+    static const int steps[] = {1, 2, 16, 31, 32, 33, 128, 240, 254, 255};
+    throw_spliced(begin, end + 1 - begin, "", 0);
+    throw_spliced(begin, 0, whole + begin, end + 1 - begin);
+    for (size_t at = begin; at + 2 < end; at += 2)
+        for (int k = 0; k < 10; k++)
+            throw_resealed(at, end, steps[k]);
+}
+
+static void throw_texts(const uint32_t *table) {
+    lend(table, TABLE);
+    write_whole();
+    throw_text(whole, whole_bytes);
+    throw_spliced(whole_bytes, 0, "0", 1);
+    throw_spliced(whole_bytes, 0, "\n", 1);
+    for (size_t at = 0; at < whole_bytes; at += whole_bytes > 9000 ? 199 : 1)
+        throw_characters(at);
+    for (size_t begin = 0, end = 0; begin < whole_bytes; begin = end + 1) {
+        for (end = begin; whole[end] != '\n';)
+            end++;
+        if (whole_bytes < 9000 || begin % 50 == 3)
+            throw_line(begin, end);
+    }
+}
+
+/* ---- The report */
+
+static int report(void) {
+    uint64_t calls = 0, wrong = 0;
+    printf("%-36s", "function \\ answer");
+    for (int k = 0; k < NUMBERS_OF_ANSWERS; k++)
+        printf(" %7d", k);
+    printf("  %s\n", "differing");
+    for (int f = 0; f < COUNT_OF_FUNCTIONS; f++) {
+        printf("%-36s", functions[f].name);
+        for (int k = 0; k < NUMBERS_OF_ANSWERS; k++) {
+            printf(" %7llu", (unsigned long long)counts[f][k]);
+            calls += counts[f][k];
+        }
+        printf("  %llu\n", (unsigned long long)differing[f]);
+        wrong += differing[f];
+    }
+    printf("%llu calls, %llu differing\n", (unsigned long long)calls, (unsigned long long)wrong);
+    return wrong != 0;
+}
+
+int main(void) {
+    struct {
+        const char *name;
+        uint32_t *table;
+        bool all;
+    } tables[] = {{"small", small, true},       {"full", full, false},   {"empty", empty, true}, {"gapped", gapped, false},
+                  {"forward", forward, false}, {"spent", spent, false}, {"ties", ties, false}};
+    memset(painted, PAINT, sizeof painted);
+    table_end = memory(4 * 2 * TABLE);
+    list_end = memory(4 * MOST_LIST);
+    text_end = memory(MOST_TEXT);
+    out_end = memory(4 * MOST_WORDS);
+    fill_all();
+    lend(small, TABLE);
+    write_whole();
+    good_bytes = whole_bytes;
+    memcpy(good_text, whole, good_bytes);
+    lend_text(good_text, good_bytes);
+    for (size_t k = 0; k < sizeof tables / sizeof *tables; k++) {
+        section = tables[k].name;
+        lend(tables[k].table, TABLE);
+        if (!held.formed) {
+            printf("%s: not well formed\n", section);
+            return 2;
+        }
+        throw_arguments();
+        throw_texts(tables[k].table);
+        throw_wrong_lengths(tables[k].table);
+        if (k < 4) {
+            throw_changed_heads(tables[k].table);
+            throw_changed_words(tables[k].table, tables[k].all);
+        }
+    }
+    return report();
+}
