@@ -1,5 +1,5 @@
 -- The best walk: there is one where there is a walk, there is no other, and it is what is computed. Assumes nothing.
-use mathlib.Core.Path.{_≡_, refl, sym, ap, ap₂, _∙_, subst}
+use mathlib.Core.Path.{_≡_, refl, sym, ap, _∙_, subst}
 use mathlib.Core.Bool.{Bool, true, false, cond}
 use mathlib.Core.Logic.{_⊎_, inl, inr, ⊎-elim}
 use mathlib.Core.List.{List, [], _∷_}
@@ -13,6 +13,7 @@ use borrow.Author.Tests.{eq-eqb, ne-eqb, eqb-true, eqb-false, ltb-true, ltb-fals
 use Rattle.lists.specs.Lists.{memb, filter, otherThan, Distinct}
 use Rattle.lists.proofs.Cases.{on, on-same, on-below, clash, or-true, or-right}
 use Rattle.order.specs.Sort.{LexLe}
+use Rattle.order.proofs.Smallest.{lex-antisym}
 use Rattle.distance.specs.Best.{Walk, total, Ahead, Best, lexLe, ahead, better, onward, bestOver, stay, within, best}
 
 -- ---- the order of walks
@@ -31,18 +32,6 @@ lex-trans (x ∷ l) (y ∷ k) (z ∷ j) p q =
     (λ (a : (x ≡ y) × LexLe l k). ⊎-elim
     (λ (b : y < z). inl (omega (arith, a .0)))
     (λ (b : (y ≡ z) × LexLe k j). inr (a .0 ∙ b .0, lex-trans l k j (a .1) (b .1))) q)
-    p
-
-lex-one : (l k : List ℕ) → LexLe l k → LexLe k l → l ≡ k
-lex-one [] [] p q = refl
-lex-one [] (y ∷ k) p q = absurd q
-lex-one (x ∷ l) [] p q = absurd p
-lex-one (x ∷ l) (y ∷ k) p q =
-    ⊎-elim
-    (λ (a : x < y). ⊎-elim (λ (b : y < x). absurd (lt-irrefl x (omega arith))) (λ (b : (y ≡ x) × LexLe k l). absurd (lt-irrefl x (omega (arith, b .0)))) q)
-    (λ (a : (x ≡ y) × LexLe l k). ⊎-elim
-    (λ (b : y < x). absurd (lt-irrefl x (omega (arith, a .0))))
-    (λ (b : (y ≡ x) × LexLe k l). ap₂ _∷_ (a .0) (lex-one l k (a .1) (b .1))) q)
     p
 
 lex-yes : (l k : List ℕ) → lexLe l k ≡ true → LexLe l k
@@ -118,7 +107,7 @@ module _ (W : ℕ → ℕ → ℕ) (x : ℕ) where
           (λ (r : length l < length k). ⊎-elim (λ (s : length k < length l). absurd (lt-irrefl (length l) (omega arith))) (λ (s : (length k ≡ length l) × LexLe k l). absurd (lt-irrefl (length l) (omega (arith, s .0)))) q)
           (λ (r : (length l ≡ length k) × LexLe l k). ⊎-elim
           (λ (s : length k < length l). absurd (lt-irrefl (length l) (omega (arith, r .0))))
-          (λ (s : (length k ≡ length l) × LexLe k l). lex-one l k (r .1) (s .1)) q)
+          (λ (s : (length k ≡ length l) × LexLe k l). lex-antisym l k (r .1) (s .1)) q)
           p
 
   -- the same step before both

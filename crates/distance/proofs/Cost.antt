@@ -13,7 +13,7 @@ use lib.Dec.{eqb, ltb}
 use borrow.Author.Tests.{eq-eqb, ne-eqb, lt-ltb, le-ltb}
 use Rattle.distance.proofs.Labels.{live-le, live-more, labels-first, labels-more, shortest}
 use Rattle.distance.specs.Labels.{relM, relD, Relaxed, Labels, live, Nearest, Shortest}
-use Rattle.lists.proofs.Cases.{on, on-same, clash}
+use Rattle.lists.proofs.Cases.{on, on-same, clash, and-true-left}
 use Rattle.lists.proofs.Count.{count-le}
 use Rattle.distance.specs.Cost.{choiceIn, stepIn, costIn, keyIn, One, stepCount, Listed, Within, Search}
 
@@ -77,13 +77,9 @@ module _ (c w : List ℕ) (u v base : ℕ) (m d : List ℕ) where
 
 -- ---- the list of u, gone through
 
-and-yes : (a b : Bool) → (a && b) ≡ true → a ≡ true
-and-yes true b e = refl
-and-yes false b e = clash e refl
-
 -- a step that is done again changes nothing
 mark-again : (e : Bool) (m : ℕ) → relM e (relM e m) ≡ relM e m
-mark-again e m = on (e && eqb m 0) (λ t. rw t (step e (and-yes e (eqb m 0) t))) (λ t. rw (t, t))
+mark-again e m = on (e && eqb m 0) (λ t. rw t (step e (and-true-left e (eqb m 0) t))) (λ t. rw (t, t))
   where
     step : (e : Bool) → e ≡ true → relM e 1 ≡ 1
     step e t = rw t

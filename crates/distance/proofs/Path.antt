@@ -1,7 +1,7 @@
 -- The path: of the walks from x to y those of least cost, of these those of fewest steps, of these the smallest vertex list.
 -- Assumes nothing.
 use mathlib.Core.Path.{_≡_, refl, sym, ap, _∙_, subst}
-use mathlib.Core.Bool.{Bool, true, false, _&&_}
+use mathlib.Core.Bool.{Bool, true, _&&_}
 use mathlib.Core.Logic.{_⊎_, inl, inr, ⊎-elim}
 use mathlib.Core.List.{List, [], _∷_}
 use Prim.Native.Nat.{ℕ, zero, suc, _+_, _*_, _≤_, _<_}
@@ -13,7 +13,7 @@ use borrow.Author.Tests.{eq-eqb, ne-eqb, eqb-true, lt-ltb, le-ltb, ltb-true, ltb
 use Rattle.distance.specs.Labels.{Shortest}
 use Rattle.distance.specs.Way.{Way, here, step}
 use Rattle.graph.specs.Reach.{Edge}
-use Rattle.lists.proofs.Cases.{on, on-same, clash}
+use Rattle.lists.proofs.Cases.{on, on-same, and-true-left, and-true-right}
 use Rattle.order.proofs.Least.{least-hit, least-le}
 use Rattle.order.specs.Least.{least}
 use Rattle.order.specs.Sort.{LexLe}
@@ -58,14 +58,6 @@ module _ (E : ℕ → ℕ → Bool) (K : ℕ → ℕ → ℕ) (n : ℕ) (m d : L
       (λ e. rw e)
       (λ e. rw (e, le-ltb (hop E K n m d x) n l))
 
-and-left : (a b : Bool) → (a && b) ≡ true → a ≡ true
-and-left true b e = refl
-and-left false b e = clash e refl
-
-and-right : (a b : Bool) → (a && b) ≡ true → b ≡ true
-and-right true b e = e
-and-right false b e = clash e refl
-
 module _ (E : ℕ → ℕ → Bool) (W : ℕ → ℕ → ℕ) (n y : ℕ) (m d : List ℕ) (small : n ≤ 256) (h : Shortest (λ a b. E b a) (λ a b. key W b a) n y m d) where
   pub under : (x : ℕ) (l : List ℕ) → Walk (Edge E n) x l y → (getD m x 0 ≡ 2) × (getD d x 0 ≤ total (key W) x l)
   under x l w = h .least x (total (key W) x l) (length l) (walk-way E (key W) n y x l w)
@@ -93,7 +85,7 @@ module _ (E : ℕ → ℕ → Bool) (W : ℕ → ℕ → ℕ) (n y : ℕ) (m d :
       let a : Bool = E x v in
       let b : Bool = eqb (getD m v 0) 2 in
       let c : Bool = eqb (getD d x 0) (key W x v + getD d v 0) in
-      (and-left a (b && c) e, eqb-true (getD m v 0) 2 (and-left b c (and-right a (b && c) e)), eqb-true (getD d x 0) (key W x v + getD d v 0) (and-right b c (and-right a (b && c) e)))
+      (and-true-left a (b && c) e, eqb-true (getD m v 0) 2 (and-true-left b c (and-true-right a (b && c) e)), eqb-true (getD d x 0) (key W x v + getD d v 0) (and-true-right b c (and-true-right a (b && c) e)))
 
   hop-has : (x : ℕ) → hop E (key W) n m d x < n → tightb E (key W) m d x (hop E (key W) n m d x) ≡ true
   unfolding hop

@@ -9,12 +9,11 @@ use native.Mathlib.Omega.{arith}
 use lib.Dec.{eqb, ltb}
 use lib.ListN.{length, getD, take, set, replicate}
 use lib.Seq.{take-all}
-use borrow.Author.Tests.{eq-eqb, ne-eqb, le-ltb}
+use borrow.Author.Tests.{le-ltb}
 use Rattle.lists.specs.Tests.{_and_}
 use Rattle.lists.specs.Lists.{any, Ascending}
-use Rattle.lists.proofs.Cases.{on, on-same}
+use Rattle.lists.proofs.Cases.{on}
 use Rattle.lists.proofs.Tab.{length-tab, getD-tab}
-use Rattle.lists.proofs.Ascend.{ascending-apart}
 use Rattle.layout.specs.declared.Found.the-variants.{At}
 use Rattle.layout.specs.Content.{Hyperedge, Table, liveVertices, position}
 use Rattle.layout.specs.Layout.{limit, vertexLimit, vertexCount, hyperedgeCount, hyperedgeAt, membersAt, read}
@@ -24,6 +23,7 @@ use Rattle.layout.proofs.Position.{position-found}
 use Rattle.layout.proofs.Read.{live-length, live-ascends}
 use Rattle.steps.specs.Matrices.{numberOf, cell}
 use Rattle.steps.proofs.Any.{any-snoc, steps-more}
+use Rattle.steps.proofs.Drawing.{same-record, and-swap}
 use Rattle.paths.specs.Paths.{noHyperedge, weightBy, lighter, choiceAmong, choice}
 use Rattle.paths.specs.Choices.{Weights, weightIn, facing, Values, among, Choosing, Chosen}
 use Rattle.paths.proofs.Values.{values-ext, values-none, values-set, weights-are}
@@ -50,21 +50,6 @@ lighter-ext : (v w : ℕ → ℕ) → ((k : ℕ) → v k ≡ w k) → (c k : ℕ
 unfolding lighter
 lighter-ext v w h zero k = refl
 lighter-ext v w h (suc c) k = rw (h k, h (suc c))
-
--- the records of two numbers are one where the numbers are
-same-record : (live : List ℕ) → Ascending live → (x a i : ℕ) → position x live ≡ At a → i < length live → eqb x (getD live i 0) ≡ eqb i a
-same-record live asc x a i e h =
-    let p = position-found x live a e in
-    on-same i a
-    (λ q. eq-eqb x (getD live i 0) (sym (p .1) ∙ ap (λ (k : ℕ). getD live k 0) (sym q)) ∙ sym (eq-eqb i a q))
-    (λ q. ne-eqb x (getD live i 0) (λ w. ascending-apart live asc i a h (p .0) q (sym w ∙ sym (p .1))) ∙ sym (ne-eqb i a q))
-
-and-swap : (a b : Bool) → (a and b) ≡ (b and a)
-unfolding _and_
-and-swap true true = refl
-and-swap true false = refl
-and-swap false true = refl
-and-swap false false = refl
 
 module _ (ws : List ℕ) (f : Formed limit ws) (F G : ℕ → ℕ → ℕ) (h : ℕ → ℕ) (x y a b : ℕ)
     (ea : position x (liveVertices (read limit ws)) ≡ At a) (eb : position y (liveVertices (read limit ws)) ≡ At b)

@@ -5,27 +5,23 @@ use mathlib.Core.List.{List, [], _∷_, _++_}
 use Prim.Native.Nat.{ℕ, _+_, _≤_, _<_}
 use native.Mathlib.Omega.{arith}
 use lib.ListN.{length, drop}
-use borrow.Author.Tests.{leb-true, lt-ltb, not-true, not-false}
+use borrow.Author.Tests.{leb-true, not-true, not-false}
 use Rattle.lists.specs.Tests.{_and_}
 use Rattle.lists.specs.Lists.{all, isBelow, flat}
 use Rattle.lists.proofs.Cases.{on, clash, and-left, and-right, and-both}
 use Rattle.layout.specs.Layout.{limit, size, vertexLimit, hyperedgeLimit}
-use Rattle.frames.specs.Frames.{byteValues, byteOf, numberBytes, shortBytes, mark, headFrame, sealed, digit, byteDigits, digits, line}
+use Rattle.frames.specs.Frames.{byteValues, numberBytes, shortBytes, mark, headFrame, sealed, digit, byteDigits, digits, line}
 use Rattle.frames.specs.Put.{Put}
 use Rattle.frames.specs.Reading.{nextVertexOf, nextHyperedgeOf, verticesDue, hyperedgesDue, standsAt, headGood}
 use Rattle.frames.specs.Bytes.{bytesAt}
 use Rattle.frames.proofs.Laws.{put-length, put-append, put-as}
 use Rattle.frames.proofs.Lines.{opening}
-use Rattle.frames.proofs.Parse.{bytes-append, bytes-front, short-bytes, number-bytes, digits-bytes, stands-eq, stands-by}
+use Rattle.frames.proofs.Parse.{bytes-append, bytes-front, short-bytes, number-bytes, digits-bytes, stands-eq, stands-by, number-low, short-low}
 use Rattle.reader.specs.Lines.{sealedAt, Sealed, countsFit}
 use Rattle.reader.specs.Passes.{HeadStored, headWords}
 use Rattle.reader.proofs.Frame.{sealed-is, number-word-at}
-use Rattle.reader.proofs.Records.{low-append, low-number, frame-sealed, frame-stands}
+use Rattle.reader.proofs.Records.{low-append, frame-sealed, frame-stands}
 use Rattle.reader.proofs.Pasted.{put-in}
-
-low-short : (x : ℕ) → all (isBelow byteValues) (shortBytes x) ≡ true
-unfolding all shortBytes
-low-short x = and-both _ _ (lt-ltb (byteOf x byteValues) byteValues (omega arith)) (and-both _ _ (lt-ltb (byteOf x 1) byteValues (omega arith)) refl)
 
 module _ (text : List ℕ) where
   frame : List ℕ
@@ -35,9 +31,9 @@ module _ (text : List ℕ) where
   unfolding frame headFrame all
   low =
       and-both _ _ refl (and-both _ _ refl (and-both _ _ refl
-      (low-append (numberBytes (nextVertexOf text)) _ (low-number (nextVertexOf text))
-      (low-append (numberBytes (nextHyperedgeOf text)) _ (low-number (nextHyperedgeOf text))
-      (low-append (shortBytes (verticesDue text)) (shortBytes (hyperedgesDue text)) (low-short (verticesDue text)) (low-short (hyperedgesDue text)))))))
+      (low-append (numberBytes (nextVertexOf text)) _ (number-low (nextVertexOf text))
+      (low-append (numberBytes (nextHyperedgeOf text)) _ (number-low (nextHyperedgeOf text))
+      (low-append (shortBytes (verticesDue text)) (shortBytes (hyperedgesDue text)) (short-low (verticesDue text)) (short-low (hyperedgesDue text)))))))
 
   -- every head line opens with 484731
   opens : (x y n m : ℕ) (rest : List ℕ) → line (headFrame x y n m) ++ rest ≡ opening ++ drop 6 (line (headFrame x y n m) ++ rest)

@@ -10,7 +10,6 @@ use borrow.Author.Tests.{le-leb, leb-true, lt-ltb, ltb-true, not-true, not-false
 use Rattle.lists.specs.Tests.{_and_}
 use Rattle.lists.specs.Lists.{all, isBelow, tab, flat}
 use Rattle.lists.proofs.Cases.{on, and-left, and-right, and-both}
-use Rattle.lists.proofs.Flat.{flat-length}
 use Rattle.lists.proofs.Tab.{length-tab}
 use Rattle.layout.specs.Content.{isLive, membersLive}
 use Rattle.layout.specs.Layout.{limit}
@@ -18,22 +17,19 @@ use Rattle.layout.specs.WellFormed.{counted}
 use Rattle.frames.specs.Frames.{byteValues, numberBytes, hyperedgeFrame, hyperedgeLine, sealed}
 use Rattle.frames.specs.Reading.{byteAt, numberIn, weightIn, countIn, memberIn, hyperedgeFrom, standsAt}
 use Rattle.frames.specs.Bytes.{bytesAt}
-use Rattle.frames.proofs.Parse.{bytes-at, bytes-append, bytes-front, number-bytes, members-bytes}
+use Rattle.frames.proofs.Parse.{bytes-at, bytes-append, bytes-front, number-bytes, members-bytes, number-low}
+use Rattle.frames.proofs.Text.{numbers-length}
 use Rattle.reader.specs.Lines.{sealedAt, Sealed, numberFits}
 use Rattle.reader.specs.Hyperedges.{hyperedgeFits}
 use Rattle.reader.proofs.Frame.{sealed-is}
-use Rattle.reader.proofs.Records.{low-append, low-number, frame-sealed, frame-stands, within, first}
+use Rattle.reader.proofs.Records.{low-append, frame-sealed, frame-stands, within, first}
 
 -- ---- the bytes of a hyperedge's frame
 
 low-numbers : (ms : List ℕ) → all (isBelow byteValues) (flat numberBytes ms) ≡ true
 unfolding all flat
 low-numbers [] = refl
-low-numbers (x ∷ ms) = low-append (numberBytes x) (flat numberBytes ms) (low-number x) (low-numbers ms)
-
-numbers-length : (ms : List ℕ) → length (flat numberBytes ms) ≡ length ms * 4
-unfolding numberBytes
-numbers-length ms = flat-length numberBytes 4 ms 0 (λ i h. refl)
+low-numbers (x ∷ ms) = low-append (numberBytes x) (flat numberBytes ms) (number-low x) (low-numbers ms)
 
 -- the bytes that stand at a place, by the parts of such a frame
 parts : (text : List ℕ) (p k : ℕ)
@@ -66,8 +62,8 @@ module _ (text : List ℕ) (p : ℕ) where
   hyperedge-low h =
       let ms : List ℕ = tab (memberIn text p) (countIn text p) in
       let few : length ms < byteValues = rw (length-tab (memberIn text p) (countIn text p)) h in
-      and-both _ _ refl (low-append (numberBytes (numberIn text p)) (numberBytes (weightIn text p) ++ (length ms ∷ flat numberBytes ms)) (low-number (numberIn text p))
-      (low-append (numberBytes (weightIn text p)) (length ms ∷ flat numberBytes ms) (low-number (weightIn text p))
+      and-both _ _ refl (low-append (numberBytes (numberIn text p)) (numberBytes (weightIn text p) ++ (length ms ∷ flat numberBytes ms)) (number-low (numberIn text p))
+      (low-append (numberBytes (weightIn text p)) (length ms ∷ flat numberBytes ms) (number-low (weightIn text p))
       (and-both _ _ (lt-ltb (length ms) byteValues few) (low-numbers ms))))
 
   hyperedge-size : length hyperedge-bytes ≡ 10 + countIn text p * 4

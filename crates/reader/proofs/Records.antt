@@ -6,15 +6,15 @@ use Prim.Native.Nat.{ℕ, suc, _+_, _*_, _%_, _≤_}
 use native.Mathlib.Nat.{add-zero}
 use native.Mathlib.Omega.{arith}
 use lib.ListN.{length, getD}
-use borrow.Author.Tests.{le-leb, leb-true, eq-eqb, eqb-true, lt-ltb, not-true, not-false}
+use borrow.Author.Tests.{le-leb, leb-true, eq-eqb, eqb-true, not-true, not-false}
 use Rattle.lists.specs.Tests.{_and_}
 use Rattle.lists.specs.Lists.{all, isBelow}
 use Rattle.lists.proofs.Cases.{on, clash, and-left, and-right, and-both}
-use Rattle.frames.specs.Frames.{byteValues, byteOf, numberBytes, vertexFrame, byteSum, sealed, line, vertexLine, vertexOf}
+use Rattle.frames.specs.Frames.{byteValues, numberBytes, vertexFrame, byteSum, sealed, line, vertexLine, vertexOf}
 use Rattle.frames.specs.Reading.{byteAt, numberAt, numberIn, weightIn, standsAt}
 use Rattle.frames.specs.Bytes.{bytesAt}
 use Rattle.frames.proofs.Lines.{sealed-sum}
-use Rattle.frames.proofs.Parse.{bytes-at, bytes-append, bytes-front, number-bytes, line-stands, line-parts, sealed-low}
+use Rattle.frames.proofs.Parse.{bytes-at, bytes-append, bytes-front, number-bytes, line-stands, line-parts, sealed-low, number-low}
 use Rattle.reader.specs.Lines.{sealedAt, Sealed, numberFits, vertexFits}
 use Rattle.reader.proofs.Frame.{sealed-is}
 
@@ -22,12 +22,6 @@ pub low-append : (xs ys : List ℕ) → all (isBelow byteValues) xs ≡ true →
 unfolding all
 low-append [] ys a b = b
 low-append (x ∷ xs) ys a b = and-both _ _ (and-left _ _ a) (low-append xs ys (and-right _ _ a) b)
-
-pub low-number : (x : ℕ) → all (isBelow byteValues) (numberBytes x) ≡ true
-unfolding all numberBytes
-low-number x =
-    and-both _ _ (lt-ltb (byteOf x 16777216) byteValues (omega arith)) (and-both _ _ (lt-ltb (byteOf x 65536) byteValues (omega arith))
-    (and-both _ _ (lt-ltb (byteOf x byteValues) byteValues (omega arith)) (and-both _ _ (lt-ltb (byteOf x 1) byteValues (omega arith)) refl)))
 
 -- a frame of bytes: its line stands exactly where the test of a frame passes, and its bytes are those
 module _ (text : List ℕ) (p : ℕ) (fr : List ℕ) where
@@ -62,7 +56,7 @@ module _ (text : List ℕ) (p low high : ℕ) where
 
   vertex-low : all (isBelow byteValues) vertex-bytes ≡ true
   unfolding vertex-bytes vertexFrame all
-  vertex-low = and-both _ _ refl (low-append (numberBytes (numberIn text p)) (numberBytes (weightIn text p)) (low-number (numberIn text p)) (low-number (weightIn text p)))
+  vertex-low = and-both _ _ refl (low-append (numberBytes (numberIn text p)) (numberBytes (weightIn text p)) (number-low (numberIn text p)) (number-low (weightIn text p)))
 
   vertex-sealed : p ≤ length text → standsAt text p (vertexLine (vertexOf (numberIn text p) (weightIn text p))) ≡ true → (sealedAt text p 10 ≡ true) × (byteAt text p ≡ 1)
   unfolding vertexLine vertex-bytes vertexFrame numberBytes sealed

@@ -2,8 +2,8 @@
 use mathlib.Core.Path.{_≡_, refl, sym, ap, _∙_}
 use mathlib.Core.Bool.{Bool, true, false, not}
 use mathlib.Core.List.{List, [], _∷_, map}
-use Prim.Native.Nat.{ℕ, zero, suc, _+_, _≤_, _<_, _%_}
-use native.Mathlib.Nat.{suc-ne-zero, zero-lt-suc, mod-lt, le-antisymm}
+use Prim.Native.Nat.{ℕ, _+_, _≤_, _<_, _%_}
+use native.Mathlib.Nat.{suc-ne-zero, mod-lt, le-antisymm}
 use native.Mathlib.Numerals.{add-one}
 use native.Mathlib.Omega.{arith}
 use lib.ListN.{length, getD, take, set, length-set}
@@ -17,6 +17,7 @@ use Rattle.layout.specs.Layout.{limit, vertexLimit, hyperedgeCount, membersAt}
 use Rattle.layout.specs.WellFormed.{Formed}
 use Rattle.layout.proofs.Read.{members-le}
 use Rattle.steps.specs.Matrices.{cell}
+use Rattle.lists.proofs.Cases.{not-none}
 use Rattle.walk.specs.Walk.{isFirstOther, memberAt, others, walker, xorshift, toOneOf}
 use Rattle.walk.specs.Passes.{isFirst, Firsts}
 use Rattle.walk.proofs.FirstPlaces.{first-mark}
@@ -108,10 +109,6 @@ module _ (v : ℕ) (ms found : List ℕ) (c i : ℕ) (inv : Picked v ms found c 
 
 -- ---- the pick: n is their number
 
-pos : (n : ℕ) → (n ≡ 0 → ⊥) → 0 < n
-pos zero h = absurd (h refl)
-pos (suc n) h = zero-lt-suc n
-
 module _ (v state : ℕ) where
   none-left : (os : List ℕ) → length os ≡ 0 → walker v state ≡ toOneOf v state os
   unfolding toOneOf
@@ -130,10 +127,10 @@ module _ (v state : ℕ) where
     -- the k-th of them stands in the first n places of found
     pub goes : (n ≡ 0 → ⊥) → (draw k x : ℕ) (found : List ℕ) → draw ≡ xorshift state → k ≡ draw % n → take n found ≡ os → x ≡ getD found k 0 → walker x draw ≡ toOneOf v state os
     goes q draw k x found d m t g =
-        let l : k < n = rw m (mod-lt draw (pos n q)) in
+        let l : k < n = rw m (mod-lt draw (not-none n q)) in
         rw (g, ← getD-take n found k 0 l, t, m, d, e) (some-left os (λ z. q (e ∙ z)))
 
 pub picked-below : (ws : List ℕ) → Formed limit ws → (v j : ℕ) → j < hyperedgeCount ws → (n : ℕ) → n ≡ length (others v (membersAt limit ws j)) → (n ≡ 0 → ⊥)
     → (draw : ℕ) → draw % n < vertexLimit
 picked-below ws f v j h n e q draw =
-    omega (arith, mod-lt draw (pos n q), e, others-count v (membersAt limit ws j), count-le (isFirstOther v (membersAt limit ws j)) (length (membersAt limit ws j)), members-le limit ws f j h)
+    omega (arith, mod-lt draw (not-none n q), e, others-count v (membersAt limit ws j), count-le (isFirstOther v (membersAt limit ws j)) (length (membersAt limit ws j)), members-le limit ws f j h)
