@@ -10,7 +10,7 @@ use lib.Dec.{eqb, leb}
 use lib.ListN.{length, getD, take, drop, set, length-append, length-set, length-drop}
 use borrow.Author.Tests.{eq-eqb, ne-eqb, le-leb, lt-leb}
 use Rattle.lists.specs.Tests.{bit, count, chosen}
-use Rattle.lists.specs.Lists.{flat, over}
+use Rattle.lists.specs.Lists.{flat, over, counted}
 use Rattle.lists.proofs.Cases.{on-same, on-below}
 use Rattle.lists.proofs.Tab.{tab-suc, map-tab}
 use Rattle.lists.proofs.Flat.{flat-snoc, tab-getD}
@@ -21,7 +21,7 @@ use Rattle.layout.specs.declared.Answer.the-variants.{Done, NoRoom}
 use Rattle.layout.specs.Answers.{result, listed}
 use Rattle.layout.proofs.Answers.{listed-over, listed-fits}
 use Rattle.marks.proofs.Marked.{picked-length}
-use Rattle.components.specs.Classes.{class, rootsOf, classes, upTo, counted}
+use Rattle.components.specs.Classes.{class, rootsOf, classes, upTo}
 use Rattle.components.specs.Parts.{inClass, Filled, Partition, classWords, partWords, Written}
 
 -- ---- blocks: h k is the k-th

@@ -2,7 +2,6 @@
 use mathlib.Core.Bool.{Bool, cond}
 use mathlib.Core.List.{List, [], _∷_, _++_, map}
 use Prim.Native.Nat.{ℕ}
-use lib.ListN.{length}
 use Rattle.lists.specs.Tests.{chosen}
 use Rattle.lists.specs.Lists.{memb, any, tab}
 use Rattle.graph.specs.Bfs.{bfs}
@@ -34,7 +33,3 @@ classes P n order = map (class P n) (rootsOf P order)
 -- the numbers below n, ascending
 abbrev pub upTo : ℕ → List ℕ
 upTo n = tab (λ i. i) n
-
--- a class as it is written: its length and its members
-abbrev pub counted : List ℕ → List ℕ
-counted c = length c ∷ c

@@ -6,8 +6,8 @@ use Prim.Native.Nat.{ℕ, suc, _+_, _≤_, _<_}
 use lib.Dec.{eqb}
 use lib.ListN.{length, getD}
 use Rattle.lists.specs.Tests.{chosen}
-use Rattle.lists.specs.Lists.{Below, flat, over}
-use Rattle.components.specs.Classes.{rootsOf, rootsFrom, upTo, counted}
+use Rattle.lists.specs.Lists.{Below, flat, over, counted}
+use Rattle.components.specs.Classes.{rootsOf, rootsFrom, upTo}
 
 -- v has a mark
 abbrev pub flagged : List ℕ → ℕ → Bool

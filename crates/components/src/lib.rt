@@ -6,13 +6,13 @@ ghost use Prim.Native.Nat.{suc, _<_, _≤_};
 ghost use lib.Dec.{eqb};
 ghost use lib.ListN.{length};
 ghost use Rattle.lists.specs.Tests.{count, chosen};
-ghost use Rattle.lists.specs.Lists.{over};
+ghost use Rattle.lists.specs.Lists.{over, counted};
 ghost use Rattle.layout.specs.Layout.{limit, vertexLimit, vertexCount, read};
 ghost use Rattle.layout.specs.WellFormed.{Formed};
 ghost use Rattle.layout.specs.Answers.{result, listed};
 ghost use Rattle.graph.specs.Reach.{matrix};
 ghost use Rattle.steps.specs.Matrices.{numberOf};
-ghost use Rattle.components.specs.Classes.{reached, upTo, counted};
+ghost use Rattle.components.specs.Classes.{reached, upTo};
 ghost use Rattle.components.specs.Parts.{flagged, inClass, Joined, Tried, Partition, Symmetric, Filled, Written, partWords};
 use layout::Answer;
 

@@ -8,11 +8,11 @@ use lib.Dec.{eqb, ltb}
 use lib.ListN.{length}
 use borrow.Author.Tests.{lt-ltb}
 use Rattle.lists.specs.Tests.{_and_}
-use Rattle.lists.specs.Lists.{any, memb, filter, otherThan}
+use Rattle.lists.specs.Lists.{any, memb, filter, otherThan, itself}
 use Rattle.lists.proofs.Cases.{on, clash, and-left}
 use Rattle.lists.proofs.Kept.{any-map, filter-map, memb-filter}
 use Rattle.layout.specs.Content.{Hyperedge, Table, vertexNumber, liveVertices, isLive}
-use Rattle.edits.specs.Edits.{itself, without, hasMembers, removeVertex}
+use Rattle.edits.specs.Edits.{without, hasMembers, removeVertex}
 use Rattle.steps.specs.Matrices.{listsBoth, together}
 
 -- ---- a test over a list

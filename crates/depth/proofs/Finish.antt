@@ -12,14 +12,14 @@ use lib.ListN.{length, getD, replicate, length-set, length-replicate, getD-repli
 use lib.Seq.{getD-set-same, getD-set-other}
 use borrow.Author.Tests.{eq-eqb}
 use Rattle.depth.proofs.Dfs.{tried-none, tried-marked, tried-new}
-use Rattle.depth.specs.Dfs.{St, unmarked, mark, enlist, tried, tries, visits}
+use Rattle.depth.specs.Dfs.{Progress, unmarked, mark, enlist, tried, tries, visits}
 use Rattle.lists.proofs.Cases.{on, on-same, clash, or-true, or-right}
 use Rattle.lists.proofs.Memb.{memb-append, memb-self, memb-snoc, memb-snoc-self, memb-left, distinct-snoc, below-snoc}
 use Rattle.lists.specs.Lists.{memb, Distinct, Below}
 use Rattle.depth.specs.Finish.{start, sweep, blank, finished}
 
 -- from one state to another: the numbers that are newly marked are those that are newly listed, each once
-pub record Grown (n : ℕ) (s t : St) : Type 0 where
+pub record Grown (n : ℕ) (s t : Progress) : Type 0 where
   pub tail : List ℕ
   pub out : t .out ≡ s .out ++ tail
   pub wide : length (t .marks) ≡ length (s .marks)
@@ -30,8 +30,8 @@ pub record Grown (n : ℕ) (s t : St) : Type 0 where
   pub all : (v : ℕ) → v < n → unmarked (s .marks) v ≡ true → unmarked (t .marks) v ≡ false → memb v tail ≡ true
 
 -- what a visit needs: its number is below n, and not marked; the marks are as many as n or more
-abbrev pub Visit : ℕ → (ℕ → St → St) → Type 0
-Visit n v = (x : ℕ) (s : St) → x < n → n ≤ length (s .marks) → unmarked (s .marks) x ≡ true → Grown n s (v x s)
+abbrev pub Visit : ℕ → (ℕ → Progress → Progress) → Type 0
+Visit n v = (x : ℕ) (s : Progress) → x < n → n ≤ length (s .marks) → unmarked (s .marks) x ≡ true → Grown n s (v x s)
 
 -- two lists with no number in common
 pub distinct-append : (a b : List ℕ) → Distinct a → Distinct b → ((v : ℕ) → memb v a ≡ true → memb v b ≡ false) → Distinct (a ++ b)
@@ -46,7 +46,7 @@ below-append n [] b p q = q
 below-append n (x ∷ a) b p q = (p .0, below-append n a b (p .1) q)
 
 module _ {n : ℕ} where
-  pub grown-refl : (s : St) → Grown n s s
+  pub grown-refl : (s : Progress) → Grown n s s
   grown-refl s = record {
     tail = [];
     out = sym (append-nil (s .out));
@@ -58,7 +58,7 @@ module _ {n : ℕ} where
     all = λ v l a b. clash a b;
   }
 
-  pub grown-trans : {s t u : St} → Grown n s t → Grown n t u → Grown n s u
+  pub grown-trans : {s t u : Progress} → Grown n s t → Grown n t u → Grown n s u
   grown-trans {s} {t} {u} g h = record {
     tail = g .tail ++ h .tail;
     out = h .out ∙ ap (λ (l : List ℕ). l ++ h .tail) (g .out) ∙ append-assoc (s .out) (g .tail) (h .tail);
@@ -77,7 +77,7 @@ module _ {n : ℕ} where
         (λ q. ap (λ (x : Bool). x || memb v (h .tail)) (g .all v l a q));
   }
 
-  module _ (s : St) (x : ℕ) (lx : x < n) (b : x < length (s .marks)) (fresh : unmarked (s .marks) x ≡ true) where
+  module _ (s : Progress) (x : ℕ) (lx : x < n) (b : x < length (s .marks)) (fresh : unmarked (s .marks) x ≡ true) where
     marked-x : unmarked (mark x s .marks) x ≡ false
     marked-x = ap (λ (i : ℕ). eqb i 0) (getD-set-same (s .marks) x 1 0 b)
 
@@ -85,7 +85,7 @@ module _ {n : ℕ} where
     other-x v ne = ap (λ (i : ℕ). eqb i 0) (getD-set-other (s .marks) x v 1 0 ne)
 
     -- x is marked, then others, and then x is listed
-    grown-visit : {t : St} → Grown n (mark x s) t → Grown n s (enlist x t)
+    grown-visit : {t : Progress} → Grown n (mark x s) t → Grown n s (enlist x t)
     grown-visit {t} g =
         let absent : memb x (g .tail) ≡ false = on (memb x (g .tail)) (λ e. clash (g .new x e .0) marked-x) (λ e. e) in
         record {
@@ -107,7 +107,7 @@ module _ {n : ℕ} where
         }
 
 module _ (E : ℕ → ℕ → Bool) (n : ℕ) where
-  grown-tried : (v : ℕ → St → St) → Visit n v → (x k : ℕ) (s : St) → k < n → n ≤ length (s .marks) → Grown n s (tried E v x k s)
+  grown-tried : (v : ℕ → Progress → Progress) → Visit n v → (x k : ℕ) (s : Progress) → k < n → n ≤ length (s .marks) → Grown n s (tried E v x k s)
   grown-tried v h x k s l b =
       on (E x k)
       (λ e. on (unmarked (s .marks) k)
@@ -115,7 +115,7 @@ module _ (E : ℕ → ℕ → Bool) (n : ℕ) where
       (λ u. rw (tried-marked E v x k s u) (grown-refl s)))
       (λ e. rw (tried-none E v x k s e) (grown-refl s))
 
-  grown-tries : (v : ℕ → St → St) → Visit n v → (x k : ℕ) (s : St) → k ≤ n → n ≤ length (s .marks) → Grown n s (tries E v x k s)
+  grown-tries : (v : ℕ → Progress → Progress) → Visit n v → (x k : ℕ) (s : Progress) → k ≤ n → n ≤ length (s .marks) → Grown n s (tries E v x k s)
   unfolding tries
   grown-tries v h x zero s l b = grown-refl s
   grown-tries v h x (suc k) s l b =
@@ -130,34 +130,34 @@ module _ (E : ℕ → ℕ → Bool) (n : ℕ) where
       (grown-tries (visits E n f) (grown-visits f) x n (mark x s) (omega arith) (omega (arith, length-set (s .marks) x 1)))
 
   -- from ascending starts
-  pub marked-visits : (f x : ℕ) (s : St) → x < n → n ≤ length (s .marks) → unmarked (s .marks) x ≡ true → unmarked (visits E n (suc f) x s .marks) x ≡ false
+  pub marked-visits : (f x : ℕ) (s : Progress) → x < n → n ≤ length (s .marks) → unmarked (s .marks) x ≡ true → unmarked (visits E n (suc f) x s .marks) x ≡ false
   unfolding visits
   marked-visits f x s l b u =
       let g = grown-tries (visits E n f) (grown-visits f) x n (mark x s) (omega arith) (omega (arith, length-set (s .marks) x 1)) in
       g .keep x (marked-x s x l (omega arith) u)
 
 module _ (E : ℕ → ℕ → Bool) (n : ℕ) where
-  pub start-new : (f x : ℕ) (s : St) → unmarked (s .marks) x ≡ true → start E n f x s ≡ visits E n f x s
+  pub start-new : (f x : ℕ) (s : Progress) → unmarked (s .marks) x ≡ true → start E n f x s ≡ visits E n f x s
   unfolding start
   start-new f x s e = rw e
 
-  pub start-old : (f x : ℕ) (s : St) → unmarked (s .marks) x ≡ false → start E n f x s ≡ s
+  pub start-old : (f x : ℕ) (s : Progress) → unmarked (s .marks) x ≡ false → start E n f x s ≡ s
   unfolding start
   start-old f x s e = rw e
 
-  pub sweep-step : (x : ℕ) (s : St) → x < n → sweep E n (n - x) x s ≡ sweep E n (n - (x + 1)) (x + 1) (start E n n x s)
+  pub sweep-step : (x : ℕ) (s : Progress) → x < n → sweep E n (n - x) x s ≡ sweep E n (n - (x + 1)) (x + 1) (start E n n x s)
   unfolding sweep
   sweep-step x s l =
       let e : n - x ≡ suc (n - (x + 1)) = omega arith in
       rw (e, add-one x)
 
-  pub sweep-end : (x : ℕ) (s : St) → n ≤ x → sweep E n (n - x) x s ≡ s
+  pub sweep-end : (x : ℕ) (s : Progress) → n ≤ x → sweep E n (n - x) x s ≡ s
   unfolding sweep
   sweep-end x s l =
       let e : n - x ≡ 0 = omega arith in
       rw e
 
-  start-grown : (x : ℕ) (s : St) → x < n → n ≤ length (s .marks) → Grown n s (start E n n x s) × (unmarked (start E n n x s .marks) x ≡ false)
+  start-grown : (x : ℕ) (s : Progress) → x < n → n ≤ length (s .marks) → Grown n s (start E n n x s) × (unmarked (start E n n x s .marks) x ≡ false)
   start-grown x s l b =
       on (unmarked (s .marks) x)
       (λ e.
@@ -166,7 +166,7 @@ module _ (E : ℕ → ℕ → Bool) (n : ℕ) where
       (grown-visits E n n x s l b e, subst (λ (f : ℕ). unmarked (visits E n f x s .marks) x ≡ false) q (marked-visits E n (n - 1) x s l b e)))
       (λ e. rw (start-old n x s e) (grown-refl s, e))
 
-  sweep-grown : (m x : ℕ) (s : St) → x + m ≤ n → n ≤ length (s .marks) → Grown n s (sweep E n m x s) × ((v : ℕ) → x ≤ v → v < x + m → unmarked (sweep E n m x s .marks) v ≡ false)
+  sweep-grown : (m x : ℕ) (s : Progress) → x + m ≤ n → n ≤ length (s .marks) → Grown n s (sweep E n m x s) × ((v : ℕ) → x ≤ v → v < x + m → unmarked (sweep E n m x s .marks) v ≡ false)
   unfolding sweep
   sweep-grown zero x s l b = (grown-refl s, λ v a c. absurd (lt-irrefl v (omega arith)))
   sweep-grown (suc m) x s l b =

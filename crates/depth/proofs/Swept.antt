@@ -8,7 +8,7 @@ use native.Mathlib.Omega.{arith}
 use lib.ListN.{replicate}
 use Rattle.depth.proofs.Finish.{sweep-step, sweep-end}
 use Rattle.depth.proofs.Went.{free-le, fit-blank}
-use Rattle.depth.specs.Dfs.{St}
+use Rattle.depth.specs.Dfs.{Progress}
 use Rattle.depth.specs.Finish.{start, sweep, finished}
 use Rattle.depth.specs.Went.{st, Went}
 use Rattle.depth.specs.Swept.{Swept, Finishes}
@@ -32,7 +32,7 @@ module _ {E : ℕ → ℕ → Bool} {n : ℕ} where
     pub swept-end : n ≤ x → Finishes E n t o
     unfolding finished
     swept-end l = record {
-      is = ap (λ (s : St). s .out) (sym (sweep-end E n x (st m o t) l) ∙ h .is);
+      is = ap (λ (s : Progress). s .out) (sym (sweep-end E n x (st m o t) l) ∙ h .is);
       long = h .fit .long;
       short = omega (arith, h .fit .room);
     }

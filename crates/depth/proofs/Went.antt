@@ -10,7 +10,7 @@ use lib.ListN.{length, getD, take, set, replicate, length-set, length-replicate}
 use lib.Seq.{take-suc-set, length-take-le}
 use Rattle.depth.proofs.Dfs.{free-mark, tried-marked, tries-step, tries-end, visits-more}
 use Rattle.depth.proofs.Pre.{climbs-step, climbs-end, walks-more}
-use Rattle.depth.specs.Dfs.{St, free, unmarked, enlist, tried, tries, visits}
+use Rattle.depth.specs.Dfs.{Progress, free, unmarked, enlist, tried, tries, visits}
 use Rattle.depth.specs.Pre.{climbs, walks, preorder}
 use Rattle.depth.specs.Went.{st, Untried, Fit, Went, Going}
 use Rattle.lists.proofs.Cases.{on, on-below}
@@ -25,11 +25,11 @@ pub fit-blank : (n : ℕ) → n ≤ 256 → Fit n (replicate 256 0) (replicate 2
 fit-blank n b = record { small = b; wide = length-replicate {A = ℕ} 256 0; long = length-replicate {A = ℕ} 256 0; room = omega (arith, free-le n (replicate 256 0)) }
 
 -- nothing is done
-pub went-none : {spec : ℕ → St → St} {n : ℕ} {m o : List ℕ} {t d : ℕ} → Fit n m o t d → ((f : ℕ) → spec f (st m o t) ≡ st m o t) → Went spec n m o t m o t
+pub went-none : {spec : ℕ → Progress → Progress} {n : ℕ} {m o : List ℕ} {t d : ℕ} → Fit n m o t d → ((f : ℕ) → spec f (st m o t) ≡ st m o t) → Went spec n m o t m o t
 went-none h e = record { is = λ f _. e f; grew = omega arith; same = refl; wide = h .wide; long = h .long }
 
 -- what is done is the same thing by another name
-pub went-as : {a b : ℕ → St → St} {n : ℕ} {m o m′ o′ : List ℕ} {t t′ : ℕ} → Went a n m o t m′ o′ t′ → ((f : ℕ) → b f (st m o t) ≡ a f (st m o t)) → Went b n m o t m′ o′ t′
+pub went-as : {a b : ℕ → Progress → Progress} {n : ℕ} {m o m′ o′ : List ℕ} {t t′ : ℕ} → Went a n m o t m′ o′ t′ → ((f : ℕ) → b f (st m o t) ≡ a f (st m o t)) → Went b n m o t m′ o′ t′
 went-as h e = record { is = λ f l. e f ∙ h .is f l; grew = h .grew; same = h .same; wide = h .wide; long = h .long }
 
 pub untried-less : {n k c r : ℕ} → Untried n k c r → 0 < k → r < k
@@ -37,7 +37,7 @@ untried-less {n} {k} {c} u l = on-below c n (λ b. omega (arith, u .rest b)) (λ
 
 -- ---- every number is marked: to try a step does nothing
 
-module _ (E : ℕ → ℕ → Bool) (v : ℕ → St → St) (n x : ℕ) (s : St) (none : free n (s .marks) ≡ 0) where
+module _ (E : ℕ → ℕ → Bool) (v : ℕ → Progress → Progress) (n x : ℕ) (s : Progress) (none : free n (s .marks) ≡ 0) where
   tried-full : (k : ℕ) → k < n → tried E v x k s ≡ s
   unfolding free
   tried-full k l =
@@ -75,7 +75,7 @@ listed o t x m l = ap (λ (w : List ℕ). record { marks = m; out = w }) (sym (a
 
 -- ---- while steps are tried
 
-module _ {todo : ℕ → ℕ → St → St} {n : ℕ} {m₁ o₁ : List ℕ} {t d : ℕ} (h : Fit n m₁ o₁ t d) where
+module _ {todo : ℕ → ℕ → Progress → Progress} {n : ℕ} {m₁ o₁ : List ℕ} {t d : ℕ} (h : Fit n m₁ o₁ t d) where
   pub going-first : Going todo n m₁ o₁ t m₁ o₁ t n
   going-first = record { left = omega arith; is = λ f l. refl; grew = omega arith; same = refl; wide = h .wide; long = h .long }
 
@@ -86,12 +86,12 @@ module _ {todo : ℕ → ℕ → St → St} {n : ℕ} {m₁ o₁ : List ℕ} {t 
   pub going-falls : (m₀ : List ℕ) {m o : List ℕ} {e k : ℕ} → free n m₀ ≡ suc (free n m₁) → Going todo n m₁ o₁ t m o e k → free n m * 257 + k < free n m₀ * 257
   going-falls m₀ a g = omega (arith, g .same, g .grew, g .left, a, h .small)
 
-  pub going-small : {m o m′ o′ : List ℕ} {e e′ k : ℕ} {try : ℕ → St → St} → Going todo n m₁ o₁ t m o e k → Went try n m o e m′ o′ e′ → e′ + d ≤ 256
+  pub going-small : {m o m′ o′ : List ℕ} {e e′ k : ℕ} {try : ℕ → Progress → Progress} → Going todo n m₁ o₁ t m o e k → Went try n m o e m′ o′ e′ → e′ + d ≤ 256
   going-small g w = omega (arith, h .room, h .small, g .same, w .same)
 
   -- one step is tried; c numbers are marked then, and r are left to try
-  going-more : {m o m′ o′ : List ℕ} {e e′ k c r : ℕ} → Going todo n m₁ o₁ t m o e k → 0 < k → (try : ℕ → St → St) → Went try n m o e m′ o′ e′
-      → ((f : ℕ) (s : St) → todo f k s ≡ todo f (k - 1) (try f s)) → ((f : ℕ) → free n m′ ≡ 0 → todo f (k - 1) (st m′ o′ e′) ≡ todo f 0 (st m′ o′ e′))
+  going-more : {m o m′ o′ : List ℕ} {e e′ k c r : ℕ} → Going todo n m₁ o₁ t m o e k → 0 < k → (try : ℕ → Progress → Progress) → Went try n m o e m′ o′ e′
+      → ((f : ℕ) (s : Progress) → todo f k s ≡ todo f (k - 1) (try f s)) → ((f : ℕ) → free n m′ ≡ 0 → todo f (k - 1) (st m′ o′ e′) ≡ todo f 0 (st m′ o′ e′))
       → c ≡ e′ + d → Untried n k c r → Going todo n m₁ o₁ t m′ o′ e′ r
   going-more {m} {o} {m′} {o′} {e} {e′} {k} {c} {r} g l try w turn stop ec u =
       let is : (f : ℕ) → free n m₁ ≤ f → todo f (k - 1) (st m′ o′ e′) ≡ todo f n (st m₁ o₁ t) =
@@ -105,10 +105,10 @@ module _ {todo : ℕ → ℕ → St → St} {n : ℕ} {m₁ o₁ : List ℕ} {t 
 
 module _ (E : ℕ → ℕ → Bool) (n x : ℕ) where
   -- what is left of a visit, where k steps are untried
-  abbrev pub visiting : ℕ → ℕ → St → St
+  abbrev pub visiting : ℕ → ℕ → Progress → Progress
   visiting f k s = tries E (visits E n f) x k s
 
-  abbrev pub entering : ℕ → ℕ → St → St
+  abbrev pub entering : ℕ → ℕ → Progress → Progress
   entering f k s = climbs E (walks E n f) x k (n - k) s
 
 module _ (E : ℕ → ℕ → Bool) (x : ℕ) {n : ℕ} {m₁ o₁ : List ℕ} {t d : ℕ} (h : Fit n m₁ o₁ t d) {m o m′ o′ : List ℕ} {e e′ k c r : ℕ} where
@@ -166,5 +166,5 @@ pub entered : (E : ℕ → ℕ → Bool) (x : ℕ) {n : ℕ} {m o : List ℕ} {r
     → (take r o ≡ preorder E n x) × (r ≡ length (preorder E n x))
 unfolding preorder
 entered E x {n} {m} {o} {r} b w =
-    let is : take r o ≡ preorder E n x = sym (ap (λ (s : St). s .out) (w .is n (free-le n (replicate 256 0)))) in
+    let is : take r o ≡ preorder E n x = sym (ap (λ (s : Progress). s .out) (w .is n (free-le n (replicate 256 0)))) in
     (is, sym (length-take-le r o (omega (arith, w .same, w .long, free-le n (replicate 256 0)))) ∙ ap length is)

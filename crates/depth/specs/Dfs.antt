@@ -7,7 +7,7 @@ use lib.ListN.{getD, set}
 use Rattle.lists.specs.Tests.{count}
 
 -- the marks, and the listing so far
-pub record St : Type 0 where
+pub record Progress : Type 0 where
   pub marks : List ℕ
   pub out : List ℕ
 
@@ -20,23 +20,23 @@ unfoldable pub free : ℕ → List ℕ → ℕ
 free n m = count (unmarked m) n
 
 -- x is marked
-abbrev pub mark : ℕ → St → St
+abbrev pub mark : ℕ → Progress → Progress
 mark x s = record { marks = set (s .marks) x 1; out = s .out }
 
 -- x comes last in the listing
-abbrev pub enlist : ℕ → St → St
+abbrev pub enlist : ℕ → Progress → Progress
 enlist x s = record { marks = s .marks; out = s .out ++ (x ∷ []) }
 
 -- the step from x to k is tried: where there is one, and k is not marked, k is visited
-unfoldable pub tried : (ℕ → ℕ → Bool) → (ℕ → St → St) → ℕ → ℕ → St → St
+unfoldable pub tried : (ℕ → ℕ → Bool) → (ℕ → Progress → Progress) → ℕ → ℕ → Progress → Progress
 tried E v x k s = let r = v k s in cond (E x k && unmarked (s .marks) k) r s
 
 -- the steps from x to the numbers below k are tried, the largest first
-unfoldable pub tries : (ℕ → ℕ → Bool) → (ℕ → St → St) → ℕ → ℕ → St → St
+unfoldable pub tries : (ℕ → ℕ → Bool) → (ℕ → Progress → Progress) → ℕ → ℕ → Progress → Progress
 tries E v x zero s = s
 tries E v x (suc k) s = tries E v x k (tried E v x k s)
 
 -- x is visited; f is at least the numbers that are not marked
-unfoldable pub visits : (ℕ → ℕ → Bool) → ℕ → ℕ → ℕ → St → St
+unfoldable pub visits : (ℕ → ℕ → Bool) → ℕ → ℕ → ℕ → Progress → Progress
 visits E n zero x s = s
 visits E n (suc f) x s = enlist x (tries E (visits E n f) x n (mark x s))

@@ -3,19 +3,19 @@ use mathlib.Core.Bool.{Bool, cond}
 use mathlib.Core.List.{List, []}
 use Prim.Native.Nat.{ℕ, zero, suc}
 use lib.ListN.{replicate}
-use Rattle.depth.specs.Dfs.{St, unmarked, visits}
+use Rattle.depth.specs.Dfs.{Progress, unmarked, visits}
 
 -- a search from x, where x is not marked
-unfoldable pub start : (ℕ → ℕ → Bool) → ℕ → ℕ → ℕ → St → St
+unfoldable pub start : (ℕ → ℕ → Bool) → ℕ → ℕ → ℕ → Progress → Progress
 start E n f x s = let r = visits E n f x s in cond (unmarked (s .marks) x) r s
 
 -- from the m starts from x on
-unfoldable pub sweep : (ℕ → ℕ → Bool) → ℕ → ℕ → ℕ → St → St
+unfoldable pub sweep : (ℕ → ℕ → Bool) → ℕ → ℕ → ℕ → Progress → Progress
 sweep E n zero x s = s
 sweep E n (suc m) x s = sweep E n m (suc x) (start E n n x s)
 
 -- before the search: no mark, nothing listed
-abbrev pub blank : St
+abbrev pub blank : Progress
 blank = record { marks = replicate 256 0; out = [] }
 
 -- the numbers below n, as they are finished

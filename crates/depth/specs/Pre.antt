@@ -2,20 +2,20 @@
 use mathlib.Core.Bool.{Bool}
 use mathlib.Core.List.{List}
 use Prim.Native.Nat.{ℕ, zero, suc}
-use Rattle.depth.specs.Dfs.{St, mark, enlist, tried}
+use Rattle.depth.specs.Dfs.{Progress, mark, enlist, tried}
 use Rattle.depth.specs.Finish.{blank}
 
 -- x is marked and listed
-abbrev pub enter : ℕ → St → St
+abbrev pub enter : ℕ → Progress → Progress
 enter x s = enlist x (mark x s)
 
 -- the steps from x to the m numbers from j on are tried, the smallest first
-unfoldable pub climbs : (ℕ → ℕ → Bool) → (ℕ → St → St) → ℕ → ℕ → ℕ → St → St
+unfoldable pub climbs : (ℕ → ℕ → Bool) → (ℕ → Progress → Progress) → ℕ → ℕ → ℕ → Progress → Progress
 climbs E v x zero j s = s
 climbs E v x (suc m) j s = climbs E v x m (suc j) (tried E v x j s)
 
 -- x is visited: it is entered, and then its steps are tried; f is at least the numbers that are not marked
-unfoldable pub walks : (ℕ → ℕ → Bool) → ℕ → ℕ → ℕ → St → St
+unfoldable pub walks : (ℕ → ℕ → Bool) → ℕ → ℕ → ℕ → Progress → Progress
 walks E n zero x s = s
 walks E n (suc f) x s = climbs E (walks E n f) x n 0 (enter x s)
 

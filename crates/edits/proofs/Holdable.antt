@@ -8,14 +8,14 @@ use lib.Dec.{leb}
 use lib.ListN.{length}
 use borrow.Author.Tests.{leb-true, le-leb}
 use Rattle.lists.specs.Tests.{_and_}
-use Rattle.lists.specs.Lists.{all, filter, otherThan, isBelow}
+use Rattle.lists.specs.Lists.{all, filter, otherThan, isBelow, itself}
 use Rattle.lists.proofs.Cases.{and-left, and-right, and-both}
 use Rattle.lists.proofs.Maps.{map-length}
 use Rattle.lists.proofs.Kept.{all-then, all-both, all-map, filter-map, filter-length, filter-pass, all-kept, keys-kept, ascending-kept, memb-filter}
 use Rattle.layout.specs.Content.{Vertex, Hyperedge, Table, vertexNumber, hyperedgeNumber, isLive, numbered, membersLive, valid}
 use Rattle.layout.specs.Layout.{vertexLimit, hyperedgeLimit}
 use Rattle.layout.specs.WellFormed.{counted, holdable}
-use Rattle.edits.specs.Edits.{itself, without, hasMembers, removeVertex, removeHyperedge}
+use Rattle.edits.specs.Edits.{without, hasMembers, removeVertex, removeHyperedge}
 
 -- a filtered list is not longer
 few-kept : {A : Type 0} (p : A → Bool) (xs : List A) (n : ℕ) → leb (length xs) n ≡ true → leb (length (filter p xs)) n ≡ true

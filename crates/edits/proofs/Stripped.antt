@@ -11,7 +11,7 @@ use borrow.Author.Tests.{lt-ltb, le-ltb}
 use lib.ListN.{length, getD, set, take, drop, replicate, length-append, length-replicate, drop-of-length-le}
 use lib.Seq.{paste, sets-eq, take-paste, drop-paste, length-paste, take-all, take-take, take-append-le, take-at, drop-at, drop-drop, getD-drop, length-take-le}
 use Rattle.lists.specs.Tests.{bit}
-use Rattle.lists.specs.Lists.{filter, otherThan, tab, flat, pad}
+use Rattle.lists.specs.Lists.{filter, otherThan, tab, flat, pad, itself}
 use Rattle.lists.proofs.Kept.{filter-length}
 use Rattle.lists.proofs.Cases.{on, not-none}
 use Rattle.lists.proofs.Tab.{tab-suc, length-tab}
@@ -24,7 +24,7 @@ use Rattle.layout.specs.WellFormed.{Formed}
 use Rattle.layout.proofs.Read.{members-le}
 use Rattle.layout.proofs.Record.{hyperedge-moved}
 use Rattle.layout.proofs.Words.{words-read}
-use Rattle.edits.specs.Edits.{itself, without, hasMembers}
+use Rattle.edits.specs.Edits.{without, hasMembers}
 use Rattle.edits.specs.Removing.{others, stripped, stripVertex, Stripped}
 use Rattle.edits.proofs.Laid.{with-hyperedges}
 

@@ -4,7 +4,7 @@ use mathlib.Core.List.{List, [], _∷_, _++_, map}
 use Prim.Native.Nat.{ℕ, _+_}
 use lib.Dec.{eqb, ltb}
 use lib.ListN.{length}
-use Rattle.lists.specs.Lists.{filter, otherThan}
+use Rattle.lists.specs.Lists.{filter, otherThan, itself}
 use Rattle.layout.specs.Content.{Hyperedge, Table, vertexNumber, hyperedgeNumber}
 
 -- adding a vertex always makes a new one, with the next number
@@ -38,9 +38,6 @@ updateHyperedge x ms t = record {
 }
 
 -- removing a vertex filters it out of every list and drops lists that held it alone
-abbrev pub itself : ℕ → ℕ
-itself x = x
-
 unfoldable pub without : ℕ → Hyperedge → Hyperedge
 without v e = record { number = e .number; weight = e .weight; members = filter (otherThan itself v) (e .members) }
 

@@ -3,10 +3,10 @@ use mathlib.Core.Path.{_≡_}
 use mathlib.Core.List.{List, map, _++_}
 use Prim.Native.Nat.{ℕ, _≤_}
 use lib.ListN.{length, take, drop}
-use Rattle.lists.specs.Lists.{filter, otherThan, tab, flat}
+use Rattle.lists.specs.Lists.{filter, otherThan, tab, flat, itself}
 use Rattle.layout.specs.Content.{Hyperedge, Table}
 use Rattle.layout.specs.Layout.{hyperedgesAt, hyperedgeWord, hyperedgeAt, hyperedgeWords}
-use Rattle.edits.specs.Edits.{itself, without, hasMembers}
+use Rattle.edits.specs.Edits.{without, hasMembers}
 
 -- the words other than v
 unfoldable pub others : ℕ → List ℕ → List ℕ

@@ -45,6 +45,10 @@ filter p (x ∷ xs) = cond (p x) (x ∷ filter p xs) (filter p xs)
 unfoldable pub otherThan : {A : Type 0} → (A → ℕ) → ℕ → A → Bool
 otherThan f k x = not (eqb (f x) k)
 
+-- a number, by itself
+abbrev pub itself : ℕ → ℕ
+itself x = x
+
 -- strictly ascending: each is below all that come after it
 unfoldable pub ascending : List ℕ → Bool
 ascending [] = true
@@ -73,6 +77,10 @@ tab f (suc n) = let h = f zero in h ∷ tab (λ i. f (suc i)) n
 unfoldable pub flat : {A : Type 0} → (A → List ℕ) → List A → List ℕ
 flat f [] = []
 flat f (x ∷ xs) = f x ++ flat f xs
+
+-- a list, its count before it
+abbrev pub counted : List ℕ → List ℕ
+counted xs = length xs ∷ xs
 
 -- 0 after xs, up to n words
 abbrev pub pad : ℕ → List ℕ → List ℕ

@@ -7,7 +7,7 @@ use Prim.Native.Nat.{ℕ}
 use lib.Dec.{eqb}
 use lib.ListN.{length, replicate}
 use Rattle.lists.specs.Tests.{bit}
-use Rattle.lists.specs.Lists.{flat}
+use Rattle.lists.specs.Lists.{flat, counted}
 use Rattle.layout.specs.declared.Answer.the-variants.{Done, BadText}
 use Rattle.layout.specs.Content.{Table, liveVertices, liveHyperedges}
 use Rattle.layout.specs.Layout.{vertexLimit, hyperedgeLimit, limit, size, words, read}
@@ -22,7 +22,6 @@ use Rattle.traversal.specs.Traversal.{traversal, reachable, traversalResult, re
 use Rattle.structural.specs.Sort.{sortOf, acyclic, sortResult, acyclicResult}
 use Rattle.structural.specs.Components.{connected, connectedComponents, strongComponents, connectedResult, connectedComponentsResult, strongComponentsResult}
 use Rattle.structural.specs.Closure.{closureOf, closureResult}
-use Rattle.components.specs.Classes.{counted}
 use Rattle.cut.specs.Cut.{cutVertices, cutVerticesResult}
 use Rattle.properties.specs.Properties.{orphanVertices, orphanHyperedges, uniform, endpoints, inclusions, nestedness}
 use Rattle.properties.specs.Results.{orphanVerticesResult, orphanHyperedgesResult, endpointsResult, uniformResult, inclusionsResult, nestednessResult}

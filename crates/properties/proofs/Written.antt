@@ -6,7 +6,7 @@ use Prim.Native.Nat.{ℕ, _+_, _-_, _≤_, _<_}
 use native.Mathlib.Omega.{arith}
 use lib.ListN.{length, take, drop, set, length-set, length-drop, length-append}
 use Rattle.lists.specs.Tests.{count, chosen}
-use Rattle.lists.specs.Lists.{over}
+use Rattle.lists.specs.Lists.{over, counted}
 use Rattle.lists.proofs.Parts.{part-tail, back-tail}
 use Rattle.lists.proofs.Chosen.{over-none, over-more, over-part, over-length}
 use Rattle.layout.specs.declared.Answer.the-variants.{Done, NoRoom}
@@ -16,7 +16,7 @@ use Rattle.layout.specs.Answers.{result, listed}
 use Rattle.layout.proofs.Answers.{listed-over, listed-fits}
 use Rattle.marks.specs.Marks.{isMarked, numberAt, marked}
 use Rattle.marks.proofs.Marked.{picked-length, marked-are}
-use Rattle.properties.specs.Properties.{counted, twice}
+use Rattle.properties.specs.Properties.{twice}
 
 -- ys written into the part from k on, where the k words of xs end; the part was lent as exit
 pub over-after : (xs ys out mid exit : List ℕ) (k : ℕ) → k ≡ length xs → mid ≡ over xs out → exit ≡ over ys (take (length mid - k) (drop k mid))
@@ -35,7 +35,6 @@ module _ (L : ℕ) (ws : List ℕ) (marks : List Bool) (n c : ℕ) (e : n ≡ ve
   marked-count = q ∙ sym (picked-length (isMarked marks) (numberAt (liveVertices (read L ws))) n) ∙ ap length (marked-are L ws marks n e)
 
   pub counted-length : c + 1 ≡ length (counted (marked marks (liveVertices (read L ws))))
-  unfolding counted
   counted-length = omega (arith, marked-count)
 
   module _ (out : List ℕ) (l : length (counted (marked marks (liveVertices (read L ws)))) ≤ length out) where
@@ -50,7 +49,6 @@ module _ (L : ℕ) (ws : List ℕ) (marks : List Bool) (n c : ℕ) (e : n ≡ ve
 
     pub counted-wrote : (exit : List ℕ) → exit ≡ over (map (numberAt (liveVertices (read L ws))) (chosen (isMarked marks) n)) (take (length (set out 0 c) - 1) (drop 1 (set out 0 c)))
         → take 1 (set out 0 c) ++ (exit ++ drop (length (set out 0 c) - 1) (drop 1 (set out 0 c))) ≡ over (counted (marked marks (liveVertices (read L ws)))) out
-    unfolding counted
     counted-wrote exit w =
         over-after (c ∷ []) _ out (set out 0 c) exit 1 refl (ap (λ (d : List ℕ). set d 0 c) (sym (over-none out)) ∙ over-more [] out c 0 refl counted-some) w
         ∙ ap₂ (λ (k : ℕ) (xs : List ℕ). over (k ∷ xs) out) marked-count (marked-are L ws marks n e)

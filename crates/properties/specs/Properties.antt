@@ -5,7 +5,7 @@ use Prim.Native.Nat.{ℕ, suc}
 use lib.Dec.{eqb}
 use lib.ListN.{length}
 use Rattle.lists.specs.Tests.{_and_, every, count, chosen}
-use Rattle.lists.specs.Lists.{all, any, filter, flat}
+use Rattle.lists.specs.Lists.{all, any, filter, flat, counted}
 use Rattle.layout.specs.Content.{Hyperedge, Table, liveVertices, hyperedgeNumber, lists}
 use Rattle.layout.specs.Steps.{stepsOf}
 use Rattle.steps.specs.Matrices.{numberOf}
@@ -78,10 +78,6 @@ sources t = filter (isEndpoint true t) (liveVertices t)
 -- the vertices with no step out, ascending
 unfoldable pub sinks : Table → List ℕ
 sinks t = filter (isEndpoint false t) (liveVertices t)
-
--- a list, its count before it
-unfoldable pub counted : List ℕ → List ℕ
-counted xs = length xs ∷ xs
 
 -- count, the first list, count, the second
 unfoldable pub twice : List ℕ → List ℕ → List ℕ

@@ -69,6 +69,3 @@ sizeAt sizes marks s j = eqb (getD sizes j 0) s and isMarked marks j
 -- the row of a size, where some hyperedge has it
 unfoldable pub rowIf : Table → ℕ → List ℕ
 rowIf t s = cond (isSize t s) (row t s) []
-
-abbrev pub itself : ℕ → ℕ
-itself s = s

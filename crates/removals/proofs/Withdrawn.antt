@@ -7,13 +7,13 @@ use native.Mathlib.Nat.{le-trans}
 use lib.Dec.{eqb}
 use borrow.Author.Tests.{ltb-false, le-ltb, ne-eqb}
 use Rattle.lists.specs.Tests.{_and_}
-use Rattle.lists.specs.Lists.{any, filter, otherThan}
+use Rattle.lists.specs.Lists.{any, filter, otherThan, itself}
 use Rattle.lists.proofs.Cases.{clash, and-left, or-right}
 use Rattle.lists.proofs.Kept.{map-ext, filter-ext, all-always, all-then, map-whole, filter-map, filter-length, filter-whole, filter-filter, filter-swap, filter-late, all-other}
 use Rattle.layout.specs.Content.{Vertex, Hyperedge, Table, vertexNumber, hyperedgeNumber, liveVertices, liveHyperedges, isLive, membersLive}
 use Rattle.layout.specs.WellFormed.{counted, holdable}
 use Rattle.layout.proofs.Holdable.{Holdable, holdable-of}
-use Rattle.edits.specs.Edits.{itself, without, hasMembers, removeVertex, removeHyperedge}
+use Rattle.edits.specs.Edits.{without, hasMembers, removeVertex, removeHyperedge}
 use Rattle.edits.proofs.Holdable.{remove-vertex-holdable, remove-hyperedge-holdable}
 use Rattle.removals.specs.Orders.{Permutes, same, swap, behind, then}
 use Rattle.removals.specs.Removals.{Removal, vertex, hyperedge, isVertex, isHyperedge, staysVertex, staysHyperedge, keptVertex, keptHyperedge, thinned, withdrawn}

@@ -7,7 +7,7 @@ use native.Mathlib.Omega.{arith}
 use lib.ListN.{getD}
 use borrow.Author.Tests.{eq-eqb, ne-eqb}
 use Rattle.lists.specs.Tests.{bit, every}
-use Rattle.lists.specs.Lists.{memb, flat}
+use Rattle.lists.specs.Lists.{memb, flat, counted}
 use Rattle.lists.proofs.Every.{every-ext, every-on, every-no, every-end}
 use Rattle.layout.specs.declared.Answer.the-variants.{Done}
 use Rattle.layout.specs.Layout.{limit, vertexCount, read}
@@ -21,7 +21,7 @@ use Rattle.graph.specs.Held.{Marks}
 use Rattle.steps.specs.Matrices.{linked, numberOf, stepsBetween, turnedBetween, linksBetween, Holds}
 use Rattle.steps.proofs.Holds.{holds-matrix}
 use Rattle.traversal.proofs.Ext.{bfs-ext}
-use Rattle.components.specs.Classes.{reached, classes, upTo, counted}
+use Rattle.components.specs.Classes.{reached, classes, upTo}
 use Rattle.components.specs.Parts.{flagged, Symmetric, Partition, partWords}
 use Rattle.components.proofs.Roots.{classes-ext}
 use Rattle.components.proofs.Linked.{upto-below}

@@ -5,14 +5,14 @@ use mathlib.Core.List.{List, [], map}
 use Prim.Native.Nat.{ℕ, _<_}
 use lib.ListN.{length, getD}
 use Rattle.lists.specs.Tests.{bit, every}
-use Rattle.lists.specs.Lists.{memb, flat, Ascending}
+use Rattle.lists.specs.Lists.{memb, flat, Ascending, counted}
 use Rattle.walks.specs.Walks.{Reach}
 use Rattle.layout.specs.declared.Answer.the-variants.{Done}
 use Rattle.layout.specs.Content.{Table, liveVertices, isLive}
 use Rattle.layout.specs.Steps.{StepIn}
 use Rattle.layout.specs.Answers.{Result, result, listed}
 use Rattle.steps.specs.Matrices.{TogetherIn, numberOf, stepsBetween, linksBetween}
-use Rattle.components.specs.Classes.{reached, classes, upTo, counted}
+use Rattle.components.specs.Classes.{reached, classes, upTo}
 use Rattle.strong.specs.Strong.{strong}
 
 -- x and y are linked through co-membership

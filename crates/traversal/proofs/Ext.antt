@@ -12,7 +12,7 @@ use Rattle.lists.proofs.Cases.{on}
 use Rattle.lists.proofs.Memb.{memb-getD, below-memb, below-snoc}
 use Rattle.graph.specs.Bfs.{push, spread, run, bfs}
 use Rattle.graph.proofs.Bfs.{spread-keeps}
-use Rattle.depth.specs.Dfs.{St, tried}
+use Rattle.depth.specs.Dfs.{Progress, tried}
 use Rattle.depth.specs.Finish.{blank}
 use Rattle.depth.specs.Pre.{enter, climbs, walks, preorder}
 use Rattle.depth.proofs.Dfs.{tried-ext}
@@ -40,17 +40,17 @@ module _ (E F : ℕ → ℕ → Bool) (n : ℕ) (h : (i j : ℕ) → i < n → j
   unfolding bfs
   bfs-ext s l = run-ext n 0 (s ∷ []) (l, tt)
 
-  climbs-ext : (v w : ℕ → St → St) → ((k : ℕ) (s : St) → k < n → v k s ≡ w k s) → (x : ℕ) → x < n → (m j : ℕ) (s : St) → j + m ≤ n → climbs E v x m j s ≡ climbs F w x m j s
+  climbs-ext : (v w : ℕ → Progress → Progress) → ((k : ℕ) (s : Progress) → k < n → v k s ≡ w k s) → (x : ℕ) → x < n → (m j : ℕ) (s : Progress) → j + m ≤ n → climbs E v x m j s ≡ climbs F w x m j s
   unfolding climbs
   climbs-ext v w g x lx zero j s b = refl
   climbs-ext v w g x lx (suc m) j s b =
       ap (climbs E v x m (suc j)) (tried-ext E F n h v w g x j s lx (omega arith)) ∙ climbs-ext v w g x lx m (suc j) (tried F w x j s) (omega arith)
 
-  walks-ext : (f x : ℕ) (s : St) → x < n → walks E n f x s ≡ walks F n f x s
+  walks-ext : (f x : ℕ) (s : Progress) → x < n → walks E n f x s ≡ walks F n f x s
   unfolding walks
   walks-ext zero x s l = refl
   walks-ext (suc f) x s l = climbs-ext (walks E n f) (walks F n f) (λ k u b. walks-ext f k u b) x l n 0 (enter x s) (omega arith)
 
   pub preorder-ext : (s : ℕ) → s < n → preorder E n s ≡ preorder F n s
   unfolding preorder
-  preorder-ext s l = ap (λ (t : St). t .out) (walks-ext n s blank l)
+  preorder-ext s l = ap (λ (t : Progress). t .out) (walks-ext n s blank l)

@@ -4,8 +4,9 @@ use Prim.Native.Nat.{ℕ, _≤_, _-_, _+_}
 use native.Mathlib.Omega.{arith}
 use denote.Ref.{now}
 use lib.ListN.{length}
+use Rattle.lists.specs.Lists.{itself}
 use Rattle.layout.specs.Layout.{limit, read}
-use Rattle.properties.specs.State.{rowIf, itself}
+use Rattle.properties.specs.State.{rowIf}
 use Rattle.properties.proofs.Blocks.{Totalled, totalled-none, totalled-more, totalled-end}
 use Rattle.properties.proofs.Rows.{row-most, rows-are}
 use borrow.Author.Needs.{needs}

@@ -5,10 +5,10 @@ use Prim.Native.Nat.{ℕ, _≤_, _-_, _+_}
 use native.Mathlib.Omega.{arith}
 use denote.Ref.{now}
 use lib.ListN.{length}
-use Rattle.lists.specs.Lists.{over}
+use Rattle.lists.specs.Lists.{over, itself}
 use Rattle.layout.specs.Layout.{limit, read}
 use Rattle.lookups.proofs.Laid.{Laid, laid-none, laid-room, laid-fits, laid-more, laid-end}
-use Rattle.properties.specs.State.{rowIf, itself}
+use Rattle.properties.specs.State.{rowIf}
 use Rattle.properties.proofs.Rows.{rows-are}
 use borrow.Author.Needs.{needs}
 use Rattle.properties.proofs.nestedness.write_rows.Statement.{statement}
