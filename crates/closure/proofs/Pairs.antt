@@ -20,7 +20,7 @@ use Rattle.layout.proofs.Answers.{listed-over, listed-fits}
 use Rattle.components.specs.Classes.{upTo}
 use Rattle.components.specs.Parts.{Written}
 use Rattle.components.proofs.Blocks.{blocks-suc, blocks-ext}
-use Rattle.closure.specs.Pairs.{apart, others, pairWords, rowWords, pairsWords}
+use Rattle.closure.specs.Pairs.{apart, secondsOf, pairWords, rowWords, pairsWords}
 use Rattle.closure.specs.State.{pairsBelow}
 
 -- ---- what the code tests
@@ -40,9 +40,9 @@ unfolding flat
 pair-words f x [] = refl
 pair-words f x (y ∷ l) = omega (arith, pair-words f x l)
 
-row-length : (f : ℕ → ℕ) (E : ℕ → ℕ → Bool) (n x : ℕ) → length (rowWords f E n x) ≡ 2 * length (others E n x)
+row-length : (f : ℕ → ℕ) (E : ℕ → ℕ → Bool) (n x : ℕ) → length (rowWords f E n x) ≡ 2 * length (secondsOf E n x)
 unfolding rowWords
-row-length f E n x = pair-words f x (others E n x)
+row-length f E n x = pair-words f x (secondsOf E n x)
 
 pairs-upto : (f : ℕ → ℕ) (E : ℕ → ℕ → Bool) (n k : ℕ) → length (flat (rowWords f E n) (upTo k)) ≡ 2 * pairsBelow E n k
 unfolding flat Rattle.lists.specs.Lists.tab
@@ -53,9 +53,9 @@ pairs-upto f E n (suc k) =
       ap (λ (i : ℕ). length (flat (rowWords f E n) (upTo i))) (add-one k),
       ap (λ (i : ℕ). pairsBelow E n i) (add-one k),
       ap length (blocks-suc (rowWords f E n) k),
-      ap length (blocks-suc (others E n) k),
+      ap length (blocks-suc (secondsOf E n) k),
       length-append (flat (rowWords f E n) (upTo k)) (rowWords f E n k),
-      length-append (flat (others E n) (upTo k)) (others E n k),
+      length-append (flat (secondsOf E n) (upTo k)) (secondsOf E n k),
       row-length f E n k,
       pairs-upto f E n k,
     )
@@ -67,7 +67,7 @@ pairs-none E n = refl
 
 pub pairs-more : (E : ℕ → ℕ → Bool) (n k c d : ℕ) → c ≡ pairsBelow E n k → d ≡ count (apart E k) n → c + d ≡ pairsBelow E n (k + 1)
 pairs-more E n k c d e q =
-    omega (arith, ap length (blocks-suc (others E n) k), length-append (flat (others E n) (upTo k)) (others E n k), chosen-count (apart E k) n)
+    omega (arith, ap length (blocks-suc (secondsOf E n) k), length-append (flat (secondsOf E n) (upTo k)) (secondsOf E n k), chosen-count (apart E k) n)
 
 -- ---- one row, written: after the seconds below y
 
@@ -110,7 +110,7 @@ row-end {f} E {x} {d₀} {y} {i} n w a b =
     let e : y ≡ n = le-antisymm a b in
     record {
       is = w .is ∙ ap (λ (k : ℕ). over (flat (pairWords f x) (chosen (apart E x) k)) d₀) e;
-      ends = w .ends ∙ ap (λ (k : ℕ). 2 * count (apart E x) k) e ∙ sym (pair-words f x (others E n x) ∙ ap (λ (k : ℕ). 2 * k) (chosen-count (apart E x) n));
+      ends = w .ends ∙ ap (λ (k : ℕ). 2 * count (apart E x) k) e ∙ sym (pair-words f x (secondsOf E n x) ∙ ap (λ (k : ℕ). 2 * k) (chosen-count (apart E x) n));
     }
 
 pub row-fits : (f : ℕ → ℕ) (E : ℕ → ℕ → Bool) (n x : ℕ) (d : List ℕ) → length (rowWords f E n x) ≤ length d → 2 * count (apart E x) n ≤ length d

@@ -12,15 +12,15 @@ unfoldable pub apart : (ℕ → ℕ → Bool) → ℕ → ℕ → Bool
 apart E x y = not (eqb x y) and E x y
 
 -- the second of each pair whose first is x, ascending
-abbrev pub others : (ℕ → ℕ → Bool) → ℕ → ℕ → List ℕ
-others E n x = chosen (apart E x) n
+abbrev pub secondsOf : (ℕ → ℕ → Bool) → ℕ → ℕ → List ℕ
+secondsOf E n x = chosen (apart E x) n
 
 -- a pair in two words: f gives each number its word
 abbrev pub pairWords : (ℕ → ℕ) → ℕ → ℕ → List ℕ
 pairWords f x y = f x ∷ f y ∷ []
 
 unfoldable pub rowWords : (ℕ → ℕ) → (ℕ → ℕ → Bool) → ℕ → ℕ → List ℕ
-rowWords f E n x = flat (pairWords f x) (others E n x)
+rowWords f E n x = flat (pairWords f x) (secondsOf E n x)
 
 -- all pairs, sorted
 abbrev pub pairsWords : (ℕ → ℕ) → (ℕ → ℕ → Bool) → ℕ → List ℕ

@@ -7,7 +7,7 @@ use lib.ListN.{length, getD}
 use Rattle.lists.specs.Tests.{bit}
 use Rattle.lists.specs.Lists.{flat}
 use Rattle.components.specs.Classes.{reached, upTo}
-use Rattle.closure.specs.Pairs.{others}
+use Rattle.closure.specs.Pairs.{secondsOf}
 
 -- the first v entries of row x are the marks, and no row before it is changed
 pub record Copied (x v : ℕ) (marks c₀ c : List ℕ) : Type 0 where
@@ -22,4 +22,4 @@ pub record Closure (E : ℕ → ℕ → Bool) (n x : ℕ) (c : List ℕ) : Type 
 
 -- how many pairs have a first below k
 abbrev pub pairsBelow : (ℕ → ℕ → Bool) → ℕ → ℕ → ℕ
-pairsBelow E n k = length (flat (others E n) (upTo k))
+pairsBelow E n k = length (flat (secondsOf E n) (upTo k))

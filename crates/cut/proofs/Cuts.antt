@@ -30,8 +30,8 @@ use Rattle.steps.proofs.Among.{Among, together-swap, together-among}
 use Rattle.steps.proofs.Records.{Agrees, record-once, record-of, holds-agrees, reach-numbers, reach-records}
 use Rattle.marks.specs.Marks.{marked}
 use Rattle.marks.proofs.Marked.{marked-filter}
-use Rattle.cut.specs.Cut.{Parted, Cut, recordOf, isLinked, parts, others, partsSome, isCut, cutVertices, cutVerticesResult}
-use Rattle.cut.specs.State.{togetherBetween, avoiding, Mirrored, CutIn, Decides, Judged}
+use Rattle.cut.specs.Cut.{Separated, Cut, recordOf, isLinked, parts, otherVertices, partsSome, isCut, cutVertices, cutVerticesResult}
+use Rattle.cut.specs.State.{togetherBetween, avoiding, Mirrored, CutIn, Decides, CutsMarked}
 use Rattle.cut.proofs.Gathering.{record-at}
 use Rattle.cut.proofs.Removed.{removed-together, removed-live}
 
@@ -46,7 +46,7 @@ ends P h {x} (step {y = u} {z = z} w r) =
     (λ (p : P x × P u). inr (p .0, h u z r .1))
     (ends P h w)
 
-parted-ends : {R S : ℕ → ℕ → Type 0} {v : ℕ} (P : ℕ → Type 0) → ((x y : ℕ) → R x y → P x × P y) → (c : Parted R S v) → P (c .a) × P (c .b)
+parted-ends : {R S : ℕ → ℕ → Type 0} {v : ℕ} (P : ℕ → Type 0) → ((x y : ℕ) → R x y → P x × P y) → (c : Separated R S v) → P (c .a) × P (c .b)
 parted-ends {R} {S} P h c =
     ⊎-elim
     (λ (e : c .a ≡ c .b). absurd (c .parted (subst (λ (z : ℕ). Reach S (c .a) z) e here)))
@@ -91,23 +91,23 @@ module _ (t : Table) (h : holdable limit t ≡ true) (v : ℕ) where
   removed = linking (removeVertex v t) (remove-vertex-holdable limit v t h)
 
   -- another live vertex
-  other-live : (x : ℕ) → isLive (others t v) x ≡ true → (x ≡ v → ⊥) × (isLive (liveVertices t) x ≡ true)
+  other-live : (x : ℕ) → isLive (otherVertices t v) x ≡ true → (x ≡ v → ⊥) × (isLive (liveVertices t) x ≡ true)
   other-live x e =
       let r = sym (removed-live v t x) ∙ e in
       (eqb-false x v (not-true (eqb x v) (and-left _ _ r)), and-right (not (eqb x v)) (isLive (liveVertices t) x) r)
 
-  live-other : (x : ℕ) → (x ≡ v → ⊥) → isLive (liveVertices t) x ≡ true → isLive (others t v) x ≡ true
+  live-other : (x : ℕ) → (x ≡ v → ⊥) → isLive (liveVertices t) x ≡ true → isLive (otherVertices t v) x ≡ true
   live-other x ne e = removed-live v t x ∙ and-both _ _ (ap not (ne-eqb x v ne)) e
 
   pub cut-is : isCut t v ≡ true → Cut t v
   unfolding isCut partsSome parts
   cut-is e =
-      let p = any-at (partsSome t v) (others t v) 0 e in
-      let q = any-at (parts t v (getD (others t v) (p .0) 0)) (others t v) 0 (p .2) in
-      let a : ℕ = getD (others t v) (p .0) 0 in
-      let b : ℕ = getD (others t v) (q .0) 0 in
-      let la : isLive (others t v) a ≡ true = memb-getD (others t v) (p .0) (p .1) in
-      let lb : isLive (others t v) b ≡ true = memb-getD (others t v) (q .0) (q .1) in
+      let p = any-at (partsSome t v) (otherVertices t v) 0 e in
+      let q = any-at (parts t v (getD (otherVertices t v) (p .0) 0)) (otherVertices t v) 0 (p .2) in
+      let a : ℕ = getD (otherVertices t v) (p .0) 0 in
+      let b : ℕ = getD (otherVertices t v) (q .0) 0 in
+      let la : isLive (otherVertices t v) a ≡ true = memb-getD (otherVertices t v) (p .0) (p .1) in
+      let lb : isLive (otherVertices t v) b ≡ true = memb-getD (otherVertices t v) (q .0) (q .1) in
       record {
         a = a;
         b = b;
@@ -117,15 +117,15 @@ module _ (t : Table) (h : holdable limit t ≡ true) (v : ℕ) where
         parted = λ w. clash (removed .test a b la lb w) (not-true (isLinked (removeVertex v t) a b) (and-right _ _ (q .2)));
       }
 
-  any-live : (p : ℕ → Bool) (x : ℕ) → isLive (others t v) x ≡ true → p x ≡ true → any p (others t v) ≡ true
-  any-live p x l e = let r = memb-at x (others t v) l in any-of p (others t v) 0 (r .0) (r .1) (ap p (r .2) ∙ e)
+  any-live : (p : ℕ → Bool) (x : ℕ) → isLive (otherVertices t v) x ≡ true → p x ≡ true → any p (otherVertices t v) ≡ true
+  any-live p x l e = let r = memb-at x (otherVertices t v) l in any-of p (otherVertices t v) 0 (r .0) (r .1) (ap p (r .2) ∙ e)
 
   pub is-cut : Cut t v → isCut t v ≡ true
   unfolding isCut partsSome parts
   is-cut c =
       let l = parted-ends (λ x. isLive (liveVertices t) x ≡ true) (together-among t content) c in
-      let la : isLive (others t v) (c .a) ≡ true = live-other (c .a) (c .a-other) (l .0) in
-      let lb : isLive (others t v) (c .b) ≡ true = live-other (c .b) (c .b-other) (l .1) in
+      let la : isLive (otherVertices t v) (c .a) ≡ true = live-other (c .a) (c .a-other) (l .0) in
+      let lb : isLive (otherVertices t v) (c .b) ≡ true = live-other (c .b) (c .b-other) (l .1) in
       any-live (partsSome t v) (c .a) la
       (any-live (parts t v (c .a)) (c .b) lb
       (and-both _ _ (linking t h .test (c .a) (c .b) (l .0) (l .1) (c .linked))
@@ -212,7 +212,7 @@ module _ {ws : List ℕ} (f : Formed limit ws) {m : List ℕ} (w : Holds (togeth
     pub mirrored-by : Mirrored (matrix m) n
     mirrored-by = rw e matrix-mirrored
 
-    pub cuts-listed : (cuts : List Bool) → Judged (matrix m) n n cuts → (out : List ℕ) (x : Result) → x ≡ listed (marked cuts (liveVertices (read limit ws))) out → x ≡ cutVerticesResult out (read limit ws)
+    pub cuts-listed : (cuts : List Bool) → CutsMarked (matrix m) n n cuts → (out : List ℕ) (x : Result) → x ≡ listed (marked cuts (liveVertices (read limit ws))) out → x ≡ cutVerticesResult out (read limit ws)
     unfolding cutVerticesResult cutVertices
     cuts-listed cuts j out x q =
         q ∙ ap (λ (l : List ℕ). listed l out) (marked-filter (isCut (read limit ws)) cuts (liveVertices (read limit ws))

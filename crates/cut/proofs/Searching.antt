@@ -16,7 +16,7 @@ use Rattle.layout.specs.Layout.{vertexLimit}
 use Rattle.graph.specs.Reach.{matrix}
 use Rattle.graph.specs.Post.{Reached}
 use Rattle.steps.specs.Matrices.{cell}
-use Rattle.cut.specs.State.{stopping, isMate, FirstMate, isKept, Cleared, CutIn, Decides, Judged}
+use Rattle.cut.specs.State.{stopping, isMate, FirstMate, isKept, Cleared, CutIn, Decides, CutsMarked}
 
 -- ---- mates: r is what `is_mate` found
 
@@ -132,11 +132,11 @@ restored-end {v} {j} {m} {p} r l = ext-getD 0 p m (r .long) (λ k h. r .same k (
 
 -- ---- each record
 
-pub judged-none : (E : ℕ → ℕ → Bool) (n : ℕ) (cuts : List Bool) → length cuts ≡ vertexLimit → Judged E n 0 cuts
+pub judged-none : (E : ℕ → ℕ → Bool) (n : ℕ) (cuts : List Bool) → length cuts ≡ vertexLimit → CutsMarked E n 0 cuts
 judged-none E n cuts e = record { long = e; each = λ i l. absurd (not-suc-le-zero l) }
 
-module _ {E : ℕ → ℕ → Bool} {n k : ℕ} {cuts : List Bool} (j : Judged E n k cuts) where
-  pub judged-more : (r : Bool) (next : List Bool) → n ≤ vertexLimit → k < n → Decides r (CutIn E n k) → next ≡ set cuts k r → Judged E n (k + 1) next
+module _ {E : ℕ → ℕ → Bool} {n k : ℕ} {cuts : List Bool} (j : CutsMarked E n k cuts) where
+  pub judged-more : (r : Bool) (next : List Bool) → n ≤ vertexLimit → k < n → Decides r (CutIn E n k) → next ≡ set cuts k r → CutsMarked E n (k + 1) next
   judged-more r next le l d e = record {
     long = rw (e, length-set) (j .long);
     each = λ i b. rw e (on-same i k
@@ -144,5 +144,5 @@ module _ {E : ℕ → ℕ → Bool} {n k : ℕ} {cuts : List Bool} (j : Judged E
         (λ s. rw (getD-set-other cuts k i r false s) (j .each i (omega arith))));
   }
 
-  pub judged-end : k ≤ n → n ≤ k → Judged E n n cuts
-  judged-end a b = subst (λ (i : ℕ). Judged E n i cuts) (le-antisymm a b) j
+  pub judged-end : k ≤ n → n ≤ k → CutsMarked E n n cuts
+  judged-end a b = subst (λ (i : ℕ). CutsMarked E n i cuts) (le-antisymm a b) j

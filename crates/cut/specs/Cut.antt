@@ -14,7 +14,7 @@ use Rattle.edits.specs.Edits.{removeVertex}
 use Rattle.steps.specs.Matrices.{together, TogetherIn, between}
 
 -- two other than v: a walk along R links them, and no walk along S does
-pub record Parted (R S : ℕ → ℕ → Type 0) (v : ℕ) : Type 0 where
+pub record Separated (R S : ℕ → ℕ → Type 0) (v : ℕ) : Type 0 where
   pub a : ℕ
   pub b : ℕ
   pub a-other : a ≡ v → ⊥
@@ -24,7 +24,7 @@ pub record Parted (R S : ℕ → ℕ → Type 0) (v : ℕ) : Type 0 where
 
 -- cut vertices: v such that two other vertices are linked through co-membership, and no longer are after v is removed
 abbrev pub Cut : Table → ℕ → Type 0
-Cut t v = Parted (TogetherIn t) (TogetherIn (removeVertex v t)) v
+Cut t v = Separated (TogetherIn t) (TogetherIn (removeVertex v t)) v
 
 -- ---- the same, computed: `listed-cut` and `cut-listed` (proofs/Cuts.antt) say that it is the same
 
@@ -41,16 +41,16 @@ unfoldable pub parts : Table → ℕ → ℕ → ℕ → Bool
 parts t v a b = isLinked t a b and not (isLinked (removeVertex v t) a b)
 
 -- the other vertices: those that are live after v is removed
-abbrev pub others : Table → ℕ → List ℕ
-others t v = liveVertices (removeVertex v t)
+abbrev pub otherVertices : Table → ℕ → List ℕ
+otherVertices t v = liveVertices (removeVertex v t)
 
 -- v parts a from some other vertex
 unfoldable pub partsSome : Table → ℕ → ℕ → Bool
-partsSome t v a = any (parts t v a) (others t v)
+partsSome t v a = any (parts t v a) (otherVertices t v)
 
 -- v parts some two other vertices
 unfoldable pub isCut : Table → ℕ → Bool
-isCut t v = any (partsSome t v) (others t v)
+isCut t v = any (partsSome t v) (otherVertices t v)
 
 -- ascending, as the live vertices are
 unfoldable pub cutVertices : Table → List ℕ

@@ -11,7 +11,7 @@ use Rattle.layout.specs.Content.{Table}
 use Rattle.layout.specs.Layout.{limit, vertexLimit, vertexCount, read}
 use Rattle.graph.specs.Reach.{Edge}
 use Rattle.steps.specs.Matrices.{together, listsBoth, between, cell, Holds}
-use Rattle.cut.specs.Cut.{Parted}
+use Rattle.cut.specs.Cut.{Separated}
 
 -- ---- the matrix of co-membership
 
@@ -79,7 +79,7 @@ Mirrored E n = (i j : ℕ) → i < n → j < n → E i j ≡ true → E j i ≡ 
 
 -- two other records are linked, and are not without v
 abbrev pub CutIn : (ℕ → ℕ → Bool) → ℕ → ℕ → Type 0
-CutIn E n v = Parted (Edge E n) (Edge (avoiding E v) n) v
+CutIn E n v = Separated (Edge E n) (Edge (avoiding E v) n) v
 
 -- r is whether P holds
 pub record Decides (r : Bool) (P : Type 0) : Type 0 where
@@ -87,6 +87,6 @@ pub record Decides (r : Bool) (P : Type 0) : Type 0 where
   pub no : r ≡ false → P → ⊥
 
 -- of the first k records, exactly the cut ones are marked
-pub record Judged (E : ℕ → ℕ → Bool) (n k : ℕ) (cuts : List Bool) : Type 0 where
+pub record CutsMarked (E : ℕ → ℕ → Bool) (n k : ℕ) (cuts : List Bool) : Type 0 where
   pub long : length cuts ≡ vertexLimit
   pub each : (i : ℕ) → i < k → Decides (getD cuts i false) (CutIn E n i)

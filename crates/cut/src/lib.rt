@@ -12,7 +12,7 @@ ghost use Rattle.graph.specs.Reach.{matrix};
 ghost use Rattle.graph.specs.Post.{Reached};
 ghost use Rattle.steps.specs.Matrices.{Holds};
 ghost use Rattle.cut.specs.Cut.{recordOf, cutVerticesResult};
-ghost use Rattle.cut.specs.State.{togetherBetween, Gathered, Places, withRow, withPairs, stopping, isMate, FirstMate, isKept, Cleared, Mirrored, CutIn, Decides, Judged};
+ghost use Rattle.cut.specs.State.{togetherBetween, Gathered, Places, withRow, withPairs, stopping, isMate, FirstMate, isKept, Cleared, Mirrored, CutIn, Decides, CutsMarked};
 use layout::Answer;
 use layout::Found;
 use layout::VertexIndex;
@@ -221,7 +221,7 @@ fn is_cut(m: &[u8; 65536], rest: &mut [u8; 65536], n: usize, v: usize) -> bool
 // Marks which of the n records are cut.
 fn judge(m: &[u8; 65536], n: usize, cuts: &mut [bool; 256])
     requires { ⌜ (n ≤ vertexLimit) × Mirrored (matrix (now m)) n × (length (now cuts) ≡ vertexLimit) ⌝ }
-    ensures { λ _. ⌜ Judged (matrix (now (m .entry))) n n (now (cuts .exit)) ⌝ }
+    ensures { λ _. ⌜ CutsMarked (matrix (now (m .entry))) n n (now (cuts .exit)) ⌝ }
 {
     let mut rest = *m;
     let mut v = 0;

@@ -16,7 +16,7 @@ use Rattle.depth.specs.Dfs.{Progress, unmarked, mark, enlist, tried, tri
 use Rattle.lists.proofs.Cases.{on, on-same, clash, or-true, or-right}
 use Rattle.lists.proofs.Memb.{memb-append, memb-self, memb-snoc, memb-snoc-self, memb-left, distinct-snoc, below-snoc}
 use Rattle.lists.specs.Lists.{memb, Distinct, Below}
-use Rattle.depth.specs.Finish.{start, sweep, blank, finished}
+use Rattle.depth.specs.Finish.{startAt, sweep, untouched, finished}
 
 -- from one state to another: the numbers that are newly marked are those that are newly listed, each once
 pub record Grown (n : ℕ) (s t : Progress) : Type 0 where
@@ -137,15 +137,15 @@ module _ (E : ℕ → ℕ → Bool) (n : ℕ) where
       g .keep x (marked-x s x l (omega arith) u)
 
 module _ (E : ℕ → ℕ → Bool) (n : ℕ) where
-  pub start-new : (f x : ℕ) (s : Progress) → unmarked (s .marks) x ≡ true → start E n f x s ≡ visits E n f x s
-  unfolding start
+  pub start-new : (f x : ℕ) (s : Progress) → unmarked (s .marks) x ≡ true → startAt E n f x s ≡ visits E n f x s
+  unfolding startAt
   start-new f x s e = rw e
 
-  pub start-old : (f x : ℕ) (s : Progress) → unmarked (s .marks) x ≡ false → start E n f x s ≡ s
-  unfolding start
+  pub start-old : (f x : ℕ) (s : Progress) → unmarked (s .marks) x ≡ false → startAt E n f x s ≡ s
+  unfolding startAt
   start-old f x s e = rw e
 
-  pub sweep-step : (x : ℕ) (s : Progress) → x < n → sweep E n (n - x) x s ≡ sweep E n (n - (x + 1)) (x + 1) (start E n n x s)
+  pub sweep-step : (x : ℕ) (s : Progress) → x < n → sweep E n (n - x) x s ≡ sweep E n (n - (x + 1)) (x + 1) (startAt E n n x s)
   unfolding sweep
   sweep-step x s l =
       let e : n - x ≡ suc (n - (x + 1)) = omega arith in
@@ -157,7 +157,7 @@ module _ (E : ℕ → ℕ → Bool) (n : ℕ) where
       let e : n - x ≡ 0 = omega arith in
       rw e
 
-  start-grown : (x : ℕ) (s : Progress) → x < n → n ≤ length (s .marks) → Grown n s (start E n n x s) × (unmarked (start E n n x s .marks) x ≡ false)
+  start-grown : (x : ℕ) (s : Progress) → x < n → n ≤ length (s .marks) → Grown n s (startAt E n n x s) × (unmarked (startAt E n n x s .marks) x ≡ false)
   start-grown x s l b =
       on (unmarked (s .marks) x)
       (λ e.
@@ -171,12 +171,12 @@ module _ (E : ℕ → ℕ → Bool) (n : ℕ) where
   sweep-grown zero x s l b = (grown-refl s, λ v a c. absurd (lt-irrefl v (omega arith)))
   sweep-grown (suc m) x s l b =
       let g = start-grown x s (omega arith) b in
-      let h = sweep-grown m (suc x) (start E n n x s) (omega arith) (omega (arith, g .0 .wide)) in
-      (grown-trans (g .0) (h .0), λ v a c. on-same v x (λ q. h .0 .keep v (subst (λ (i : ℕ). unmarked (start E n n x s .marks) i ≡ false) (sym q) (g .1))) (λ ne. h .1 v (omega arith) (omega arith)))
+      let h = sweep-grown m (suc x) (startAt E n n x s) (omega arith) (omega (arith, g .0 .wide)) in
+      (grown-trans (g .0) (h .0), λ v a c. on-same v x (λ q. h .0 .keep v (subst (λ (i : ℕ). unmarked (startAt E n n x s .marks) i ≡ false) (sym q) (g .1))) (λ ne. h .1 v (omega arith) (omega arith)))
 
   module _ (small : n ≤ 256) where
-    sweep-all : Grown n blank (sweep E n n 0 blank) × ((v : ℕ) → 0 ≤ v → v < 0 + n → unmarked (sweep E n n 0 blank .marks) v ≡ false)
-    sweep-all = sweep-grown n 0 blank (omega arith) (omega (arith, length-replicate {A = ℕ} 256 0))
+    sweep-all : Grown n untouched (sweep E n n 0 untouched) × ((v : ℕ) → 0 ≤ v → v < 0 + n → unmarked (sweep E n n 0 untouched .marks) v ≡ false)
+    sweep-all = sweep-grown n 0 untouched (omega arith) (omega (arith, length-replicate {A = ℕ} 256 0))
 
     -- every number below n is finished, once
     pub finished-once : Distinct (finished E n)

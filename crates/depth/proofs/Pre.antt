@@ -12,7 +12,7 @@ use borrow.Author.Tests.{eq-eqb, eqb-true, ne-eqb}
 use Rattle.depth.proofs.Dfs.{free-mark, tried-none, tried-marked, tried-new}
 use Rattle.depth.proofs.Finish.{Grown, grown-refl, grown-trans}
 use Rattle.depth.specs.Dfs.{Progress, unmarked, free, tried}
-use Rattle.depth.specs.Finish.{blank}
+use Rattle.depth.specs.Finish.{untouched}
 use Rattle.graph.specs.Reach.{Edge}
 use Rattle.lists.proofs.Cases.{on, on-same, clash, or-right}
 use Rattle.lists.proofs.Count.{count-mono, count-le}
@@ -135,12 +135,12 @@ module _ (E : ℕ → ℕ → Bool) (n : ℕ) where
       (full-enter s x l (omega arith) u (k .0) (λ z lz e. k .1 z (omega arith) (omega arith) e), k .0 .grown .keep x (marked-x s x l (omega arith) u))
 
   module _ (small : n ≤ 256) (x : ℕ) (lx : x < n) where
-    zeros : (v : ℕ) → v < n → unmarked (blank .marks) v ≡ true
+    zeros : (v : ℕ) → v < n → unmarked (untouched .marks) v ≡ true
     zeros v l = eq-eqb (getD (replicate 256 0) v 0) 0 (getD-replicate {A = ℕ} 256 v 0 0 (omega arith))
 
-    all : Full E n x blank (walks E n n x blank) × (unmarked (walks E n n x blank .marks) x ≡ false)
+    all : Full E n x untouched (walks E n n x untouched) × (unmarked (walks E n n x untouched .marks) x ≡ false)
     unfolding free
-    all = full-walks n x blank lx (omega (arith, length-replicate {A = ℕ} 256 0)) (zeros x lx) (count-le (unmarked (blank .marks)) n)
+    all = full-walks n x untouched lx (omega (arith, length-replicate {A = ℕ} 256 0)) (zeros x lx) (count-le (unmarked (untouched .marks)) n)
 
     pub preorder-once : Distinct (preorder E n x)
     unfolding preorder
@@ -159,7 +159,7 @@ module _ (E : ℕ → ℕ → Bool) (n : ℕ) where
     pub preorder-complete : (y : ℕ) → y < n → Reach (Edge E n) x y → memb y (preorder E n x) ≡ true
     unfolding preorder
     preorder-complete y l w =
-        let t : Progress = walks E n n x blank in
+        let t : Progress = walks E n n x untouched in
         let marked : unmarked (t .marks) y ≡ false =
         reach-keeps (λ z. unmarked (t .marks) z ≡ false) (all .1)
         (λ a c p e. all .0 .done a c (e .0) (e .1) (zeros a (e .0)) p (e .2)) w in

@@ -9,8 +9,8 @@ use lib.ListN.{replicate}
 use Rattle.depth.proofs.Finish.{sweep-step, sweep-end}
 use Rattle.depth.proofs.Went.{free-le, fit-blank}
 use Rattle.depth.specs.Dfs.{Progress}
-use Rattle.depth.specs.Finish.{start, sweep, finished}
-use Rattle.depth.specs.Went.{st, Went}
+use Rattle.depth.specs.Finish.{startAt, sweep, finished}
+use Rattle.depth.specs.Went.{progress, Went}
 use Rattle.depth.specs.Swept.{Swept, Finishes}
 
 module _ {E : ℕ → ℕ → Bool} {n : ℕ} where
@@ -22,17 +22,17 @@ module _ {E : ℕ → ℕ → Bool} {n : ℕ} where
   }
 
   module _ {m o : List ℕ} {t x : ℕ} (h : Swept E n m o t x) where
-    pub swept-more : {m′ o′ : List ℕ} {t′ : ℕ} → x < n → Went (λ f. start E n f x) n m o t m′ o′ t′ → Swept E n m′ o′ t′ (x + 1)
+    pub swept-more : {m′ o′ : List ℕ} {t′ : ℕ} → x < n → Went (λ f. startAt E n f x) n m o t m′ o′ t′ → Swept E n m′ o′ t′ (x + 1)
     swept-more l w = record {
       within = omega arith;
       fit = record { small = h .fit .small; wide = w .wide; long = w .long; room = omega (arith, w .same, h .fit .room) };
-      is = ap (sweep E n (n - (x + 1)) (x + 1)) (sym (w .is n (free-le n m))) ∙ sym (sweep-step E n x (st m o t) l) ∙ h .is;
+      is = ap (sweep E n (n - (x + 1)) (x + 1)) (sym (w .is n (free-le n m))) ∙ sym (sweep-step E n x (progress m o t) l) ∙ h .is;
     }
 
     pub swept-end : n ≤ x → Finishes E n t o
     unfolding finished
     swept-end l = record {
-      is = ap (λ (s : Progress). s .out) (sym (sweep-end E n x (st m o t) l) ∙ h .is);
+      is = ap (λ (s : Progress). s .out) (sym (sweep-end E n x (progress m o t) l) ∙ h .is);
       long = h .fit .long;
       short = omega (arith, h .fit .room);
     }

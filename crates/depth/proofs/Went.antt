@@ -12,7 +12,7 @@ use Rattle.depth.proofs.Dfs.{free-mark, tried-marked, tries-step, tries
 use Rattle.depth.proofs.Pre.{climbs-step, climbs-end, walks-more}
 use Rattle.depth.specs.Dfs.{Progress, free, unmarked, enlist, tried, tries, visits}
 use Rattle.depth.specs.Pre.{climbs, walks, preorder}
-use Rattle.depth.specs.Went.{st, Untried, Fit, Went, Going}
+use Rattle.depth.specs.Went.{progress, Untried, Fit, Went, Going}
 use Rattle.lists.proofs.Cases.{on, on-below}
 use Rattle.lists.proofs.Count.{count-below, count-le}
 
@@ -25,11 +25,11 @@ pub fit-blank : (n : ℕ) → n ≤ 256 → Fit n (replicate 256 0) (replicate 2
 fit-blank n b = record { small = b; wide = length-replicate {A = ℕ} 256 0; long = length-replicate {A = ℕ} 256 0; room = omega (arith, free-le n (replicate 256 0)) }
 
 -- nothing is done
-pub went-none : {spec : ℕ → Progress → Progress} {n : ℕ} {m o : List ℕ} {t d : ℕ} → Fit n m o t d → ((f : ℕ) → spec f (st m o t) ≡ st m o t) → Went spec n m o t m o t
+pub went-none : {spec : ℕ → Progress → Progress} {n : ℕ} {m o : List ℕ} {t d : ℕ} → Fit n m o t d → ((f : ℕ) → spec f (progress m o t) ≡ progress m o t) → Went spec n m o t m o t
 went-none h e = record { is = λ f _. e f; grew = omega arith; same = refl; wide = h .wide; long = h .long }
 
 -- what is done is the same thing by another name
-pub went-as : {a b : ℕ → Progress → Progress} {n : ℕ} {m o m′ o′ : List ℕ} {t t′ : ℕ} → Went a n m o t m′ o′ t′ → ((f : ℕ) → b f (st m o t) ≡ a f (st m o t)) → Went b n m o t m′ o′ t′
+pub went-as : {a b : ℕ → Progress → Progress} {n : ℕ} {m o m′ o′ : List ℕ} {t t′ : ℕ} → Went a n m o t m′ o′ t′ → ((f : ℕ) → b f (progress m o t) ≡ a f (progress m o t)) → Went b n m o t m′ o′ t′
 went-as h e = record { is = λ f l. e f ∙ h .is f l; grew = h .grew; same = h .same; wide = h .wide; long = h .long }
 
 pub untried-less : {n k c r : ℕ} → Untried n k c r → 0 < k → r < k
@@ -70,7 +70,7 @@ module _ {n x : ℕ} {m o : List ℕ} {t d : ℕ} (h : Fit n m o t d) (l : x < n
   fit-enter = record { small = h .small; wide = length-set m x 1 ∙ h .wide; long = length-set o t x ∙ h .long; room = omega (arith, h .room, fit-marked) }
 
 -- x after the listing
-listed : (o : List ℕ) (t x : ℕ) (m : List ℕ) → t < length o → enlist x (st m o t) ≡ st m (set o t x) (t + 1)
+listed : (o : List ℕ) (t x : ℕ) (m : List ℕ) → t < length o → enlist x (progress m o t) ≡ progress m (set o t x) (t + 1)
 listed o t x m l = ap (λ (w : List ℕ). record { marks = m; out = w }) (sym (ap (λ (i : ℕ). take i (set o t x)) (add-one t) ∙ take-suc-set o t x l))
 
 -- ---- while steps are tried
@@ -91,13 +91,13 @@ module _ {todo : ℕ → ℕ → Progress → Progress} {n : ℕ} {m₁ o₁ : L
 
   -- one step is tried; c numbers are marked then, and r are left to try
   going-more : {m o m′ o′ : List ℕ} {e e′ k c r : ℕ} → Going todo n m₁ o₁ t m o e k → 0 < k → (try : ℕ → Progress → Progress) → Went try n m o e m′ o′ e′
-      → ((f : ℕ) (s : Progress) → todo f k s ≡ todo f (k - 1) (try f s)) → ((f : ℕ) → free n m′ ≡ 0 → todo f (k - 1) (st m′ o′ e′) ≡ todo f 0 (st m′ o′ e′))
+      → ((f : ℕ) (s : Progress) → todo f k s ≡ todo f (k - 1) (try f s)) → ((f : ℕ) → free n m′ ≡ 0 → todo f (k - 1) (progress m′ o′ e′) ≡ todo f 0 (progress m′ o′ e′))
       → c ≡ e′ + d → Untried n k c r → Going todo n m₁ o₁ t m′ o′ e′ r
   going-more {m} {o} {m′} {o′} {e} {e′} {k} {c} {r} g l try w turn stop ec u =
-      let is : (f : ℕ) → free n m₁ ≤ f → todo f (k - 1) (st m′ o′ e′) ≡ todo f n (st m₁ o₁ t) =
-      λ f a. ap (todo f (k - 1)) (sym (w .is f (omega (arith, g .same, g .grew)))) ∙ sym (turn f (st m o e)) ∙ g .is f a in
+      let is : (f : ℕ) → free n m₁ ≤ f → todo f (k - 1) (progress m′ o′ e′) ≡ todo f n (progress m₁ o₁ t) =
+      λ f a. ap (todo f (k - 1)) (sym (w .is f (omega (arith, g .same, g .grew)))) ∙ sym (turn f (progress m o e)) ∙ g .is f a in
       let sum : e′ + free n m′ ≡ t + free n m₁ = w .same ∙ g .same in
-      let made : (i : ℕ) → i ≤ n → ((f : ℕ) → free n m₁ ≤ f → todo f i (st m′ o′ e′) ≡ todo f n (st m₁ o₁ t)) → Going todo n m₁ o₁ t m′ o′ e′ i =
+      let made : (i : ℕ) → i ≤ n → ((f : ℕ) → free n m₁ ≤ f → todo f i (progress m′ o′ e′) ≡ todo f n (progress m₁ o₁ t)) → Going todo n m₁ o₁ t m′ o′ e′ i =
       λ i b q. record { left = b; is = q; grew = omega (arith, g .grew, w .grew); same = sum; wide = w .wide; long = w .long } in
       on-below c n
       (λ b. subst (λ (i : ℕ). Going todo n m₁ o₁ t m′ o′ e′ i) (sym (u .rest b)) (made (k - 1) (omega (arith, g .left)) is))
@@ -117,14 +117,14 @@ module _ (E : ℕ → ℕ → Bool) (x : ℕ) {n : ℕ} {m₁ o₁ : List ℕ} {
   visiting-more g l w =
       going-more h g l (λ f. tried E (visits E n f) x (k - 1)) w
       (λ f s. tries-step E (visits E n f) x k s l)
-      (λ f z. tries-full E (visits E n f) n x (st m′ o′ e′) z (k - 1) (omega (arith, g .left)) ∙ sym (tries-end E (visits E n f) x (st m′ o′ e′)))
+      (λ f z. tries-full E (visits E n f) n x (progress m′ o′ e′) z (k - 1) (omega (arith, g .left)) ∙ sym (tries-end E (visits E n f) x (progress m′ o′ e′)))
 
   pub entering-more : Going (entering E n x) n m₁ o₁ t m o e k → 0 < k → Went (λ f. tried E (walks E n f) x (n - k)) n m o e m′ o′ e′
       → c ≡ e′ + d → Untried n k c r → Going (entering E n x) n m₁ o₁ t m′ o′ e′ r
   entering-more g l w =
       going-more h g l (λ f. tried E (walks E n f) x (n - k)) w
       (λ f s. climbs-step E (walks E n f) n x k s l (g .left))
-      (λ f z. climbs-full E (walks E n f) n x (st m′ o′ e′) z (k - 1) (n - (k - 1)) (omega (arith, g .left)) ∙ sym (climbs-end E (walks E n f) x (n - 0) (st m′ o′ e′)))
+      (λ f z. climbs-full E (walks E n f) n x (progress m′ o′ e′) z (k - 1) (n - (k - 1)) (omega (arith, g .left)) ∙ sym (climbs-end E (walks E n f) x (n - 0) (progress m′ o′ e′)))
 
 module _ (E : ℕ → ℕ → Bool) {n x : ℕ} {m o : List ℕ} {t d : ℕ} (h : Fit n m o t d) (l : x < n) (z : getD m x 0 ≡ 0) {m′ o′ : List ℕ} {e k : ℕ} where
   pub visiting-room : Going (visiting E n x) n (set m x 1) o t m′ o′ e k → e < n
@@ -136,8 +136,8 @@ module _ (E : ℕ → ℕ → Bool) {n x : ℕ} {m o : List ℕ} {t d : ℕ} (h 
     is = λ f b.
         let a : 0 < f = omega (arith, fit-marked h l z) in
         let q : k ≡ 0 = omega arith in
-        visits-more E n f x (st m o t) a
-        ∙ ap (enlist x) (sym (g .is (f - 1) (omega (arith, fit-marked h l z))) ∙ ap (λ (i : ℕ). tries E (visits E n (f - 1)) x i (st m′ o′ e)) q ∙ tries-end E (visits E n (f - 1)) x (st m′ o′ e))
+        visits-more E n f x (progress m o t) a
+        ∙ ap (enlist x) (sym (g .is (f - 1) (omega (arith, fit-marked h l z))) ∙ ap (λ (i : ℕ). tries E (visits E n (f - 1)) x i (progress m′ o′ e)) q ∙ tries-end E (visits E n (f - 1)) x (progress m′ o′ e))
         ∙ listed o′ e x m′ (omega (arith, visiting-room g, h .small, g .long));
     grew = omega (arith, g .grew);
     same = omega (arith, g .same, fit-marked h l z);
@@ -151,10 +151,10 @@ module _ (E : ℕ → ℕ → Bool) {n x : ℕ} {m o : List ℕ} {t d : ℕ} (h 
     is = λ f b.
         let a : 0 < f = omega (arith, fit-marked h l z) in
         let q : k ≡ 0 = omega arith in
-        walks-more E n f x (st m o t) a
+        walks-more E n f x (progress m o t) a
         ∙ ap (climbs E (walks E n (f - 1)) x n (n - n)) (listed o t x (set m x 1) (omega (arith, fit-place h l z, h .small, h .long)))
         ∙ sym (g .is (f - 1) (omega (arith, fit-marked h l z)))
-        ∙ ap (λ (i : ℕ). climbs E (walks E n (f - 1)) x i (n - i) (st m′ o′ e)) q ∙ climbs-end E (walks E n (f - 1)) x (n - 0) (st m′ o′ e);
+        ∙ ap (λ (i : ℕ). climbs E (walks E n (f - 1)) x i (n - i) (progress m′ o′ e)) q ∙ climbs-end E (walks E n (f - 1)) x (n - 0) (progress m′ o′ e);
     grew = omega (arith, g .grew);
     same = omega (arith, g .same, fit-marked h l z);
     wide = g .wide;

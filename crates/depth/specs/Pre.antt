@@ -3,7 +3,7 @@ use mathlib.Core.Bool.{Bool}
 use mathlib.Core.List.{List}
 use Prim.Native.Nat.{ℕ, zero, suc}
 use Rattle.depth.specs.Dfs.{Progress, mark, enlist, tried}
-use Rattle.depth.specs.Finish.{blank}
+use Rattle.depth.specs.Finish.{untouched}
 
 -- x is marked and listed
 abbrev pub enter : ℕ → Progress → Progress
@@ -21,4 +21,4 @@ walks E n (suc f) x s = climbs E (walks E n f) x n 0 (enter x s)
 
 -- the numbers that a visit of x lists, where none is marked before
 unfoldable pub preorder : (ℕ → ℕ → Bool) → ℕ → ℕ → List ℕ
-preorder E n x = walks E n n x blank .out
+preorder E n x = walks E n n x untouched .out

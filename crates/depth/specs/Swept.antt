@@ -4,13 +4,13 @@ use mathlib.Core.Bool.{Bool}
 use mathlib.Core.List.{List}
 use Prim.Native.Nat.{ℕ, _-_, _≤_}
 use lib.ListN.{length, take}
-use Rattle.depth.specs.Finish.{sweep, blank, finished}
-use Rattle.depth.specs.Went.{st, Fit}
+use Rattle.depth.specs.Finish.{sweep, untouched, finished}
+use Rattle.depth.specs.Went.{progress, Fit}
 
 pub record Swept (E : ℕ → ℕ → Bool) (n : ℕ) (m o : List ℕ) (t x : ℕ) : Type 0 where
   pub within : x ≤ n
   pub fit : Fit n m o t 0
-  pub is : sweep E n (n - x) x (st m o t) ≡ sweep E n n 0 blank
+  pub is : sweep E n (n - x) x (progress m o t) ≡ sweep E n n 0 untouched
 
 -- the listing stands in the first t places of o
 pub record Finishes (E : ℕ → ℕ → Bool) (n t : ℕ) (o : List ℕ) : Type 0 where

@@ -5,8 +5,8 @@ use Prim.Native.Nat.{ℕ, _+_, _-_, _≤_, _<_}
 use lib.ListN.{length, take}
 use Rattle.depth.specs.Dfs.{Progress, free}
 
-abbrev pub st : List ℕ → List ℕ → ℕ → Progress
-st m o t = record { marks = m; out = take t o }
+abbrev pub progress : List ℕ → List ℕ → ℕ → Progress
+progress m o t = record { marks = m; out = take t o }
 
 -- after one of k neighbours is tried, where so many of n numbers are marked
 pub record Untried (n k marked r : ℕ) : Type 0 where
@@ -21,7 +21,7 @@ pub record Fit (n : ℕ) (m o : List ℕ) (t d : ℕ) : Type 0 where
   pub room : t + d + free n m ≤ n
 
 pub record Went (spec : ℕ → Progress → Progress) (n : ℕ) (m o : List ℕ) (t : ℕ) (m′ o′ : List ℕ) (t′ : ℕ) : Type 0 where
-  pub is : (f : ℕ) → free n m ≤ f → spec f (st m o t) ≡ st m′ o′ t′
+  pub is : (f : ℕ) → free n m ≤ f → spec f (progress m o t) ≡ progress m′ o′ t′
   pub grew : t ≤ t′
   pub same : t′ + free n m′ ≡ t + free n m
   pub wide : length m′ ≡ 256
@@ -30,7 +30,7 @@ pub record Went (spec : ℕ → Progress → Progress) (n : ℕ) (m o : List ℕ
 -- while steps are tried: k are untried, and to try them makes what to try all n would have made at the start, of the marks m₁
 pub record Going (todo : ℕ → ℕ → Progress → Progress) (n : ℕ) (m₁ o₁ : List ℕ) (t : ℕ) (m o : List ℕ) (e k : ℕ) : Type 0 where
   pub left : k ≤ n
-  pub is : (f : ℕ) → free n m₁ ≤ f → todo f k (st m o e) ≡ todo f n (st m₁ o₁ t)
+  pub is : (f : ℕ) → free n m₁ ≤ f → todo f k (progress m o e) ≡ todo f n (progress m₁ o₁ t)
   pub grew : t ≤ e
   pub same : e + free n m ≡ t + free n m₁
   pub wide : length m ≡ 256

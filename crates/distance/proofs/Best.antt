@@ -14,7 +14,7 @@ use Rattle.lists.specs.Lists.{memb, filter, otherThan, Distinct}
 use Rattle.lists.proofs.Cases.{on, on-same, on-below, clash, or-true, or-right}
 use Rattle.order.specs.Sort.{LexLe}
 use Rattle.order.proofs.Smallest.{lex-antisym}
-use Rattle.distance.specs.Best.{Walk, total, Ahead, Best, lexLe, ahead, better, onward, bestOver, stay, within, best}
+use Rattle.distance.specs.Best.{Walk, total, Ahead, Best, lexLe, ahead, better, onward, bestOver, stay, bestWithin, best}
 
 -- ---- the order of walks
 
@@ -280,28 +280,28 @@ module _ (E : ℕ → ℕ → Bool) (W : ℕ → ℕ → ℕ) (vs : List ℕ) (y
   unfolding stay
   stay-sound x l e = on (eqb x y) (λ t. (eqb-true x y t, let q : some [] ≡ some l = rw t at e in cc)) (λ t. no-some (rw t at e))
 
-  within-sound : (f x : ℕ) (l : List ℕ) → within E W vs y f x ≡ some l → Walk (Steps E) x l y
-  unfolding within
+  within-sound : (f x : ℕ) (l : List ℕ) → bestWithin E W vs y f x ≡ some l → Walk (Steps E) x l y
+  unfolding bestWithin
   within-sound zero x l e = let r = stay-sound x l e in subst (λ (k : List ℕ). Walk (Steps E) x k y) (sym (r .1)) (r .0)
   within-sound (suc f) x l e =
       ⊎-elim
       (λ (p : stay x y ≡ some l). let r = stay-sound x l p in subst (λ (k : List ℕ). Walk (Steps E) x k y) (sym (r .1)) (r .0))
-      (λ (p : bestOver E W x (λ v. within E W vs y f v) vs ≡ some l).
-      let r = over-sound E W x (λ v. within E W vs y f v) vs l p in
+      (λ (p : bestOver E W x (λ v. bestWithin E W vs y f v) vs ≡ some l).
+      let r = over-sound E W x (λ v. bestWithin E W vs y f v) vs l p in
       subst (λ (k : List ℕ). Walk (Steps E) x k y) (sym (r .4)) (r .2, within-sound f (r .0) (r .1) (r .3)))
-      (better-one W x (stay x y) (bestOver E W x (λ v. within E W vs y f v) vs) l e)
+      (better-one W x (stay x y) (bestOver E W x (λ v. bestWithin E W vs y f v) vs) l e)
 
   module _ (into : (u v : ℕ) → E u v ≡ true → memb v vs ≡ true) where
-    within-complete : (f x : ℕ) (k : List ℕ) → Walk (Steps E) x k y → length k ≤ f → (l : List ℕ) × (within E W vs y f x ≡ some l) × (Ahead W x l k)
-    unfolding within stay
+    within-complete : (f x : ℕ) (k : List ℕ) → Walk (Steps E) x k y → length k ≤ f → (l : List ℕ) × (bestWithin E W vs y f x ≡ some l) × (Ahead W x l k)
+    unfolding bestWithin stay
     within-complete zero x [] w h = ([], rw (eq-eqb x y w), ahead-refl W x [])
     within-complete zero x (v ∷ k) w h = absurd (lt-irrefl 0 (omega arith))
     within-complete (suc f) x [] w h =
-        let r = better-left W x [] (bestOver E W x (λ v. within E W vs y f v) vs) in
+        let r = better-left W x [] (bestOver E W x (λ v. bestWithin E W vs y f v) vs) in
         (r .0, rw (eq-eqb x y w) (r .1), r .2)
     within-complete (suc f) x (v ∷ k) w h =
         let r = within-complete f v k (w .1) (omega arith) in
-        let s = over-complete E W x (λ u. within E W vs y f u) vs v (r .0) (into x v (w .0)) (w .0) (r .1) in
+        let s = over-complete E W x (λ u. bestWithin E W vs y f u) vs v (r .0) (into x v (w .0)) (w .0) (r .1) in
         let b = better-right W x (cond (eqb x y) (some []) none) (s .0) in
         (b .0, rw (s .1) (b .1), ahead-trans W x (b .0) (s .0) (v ∷ k) (b .2) (ahead-trans W x (s .0) (v ∷ r .0) (v ∷ k) (s .2) (ahead-step W x v (r .0) k (r .2))))
 

@@ -14,7 +14,7 @@ use Rattle.distance.proofs.Path.{path-none, path-more, path-lost, path-
 use Rattle.distance.specs.Cost.{choiceIn, stepIn, costIn, keyIn, stepBack, costBack, keyBack}
 use Rattle.distance.specs.Labels.{Shortest}
 use Rattle.distance.specs.Best.{total, Best}
-use Rattle.distance.specs.Path.{tightb, hop, path}
+use Rattle.distance.specs.Path.{isTight, hop, path}
 use Rattle.graph.specs.Reach.{Edge}
 use Rattle.lists.proofs.Cases.{clash}
 use Rattle.distance.specs.Descent.{Down, Descended, Pair}
@@ -22,17 +22,17 @@ use Rattle.distance.specs.Descent.{Down, Descended, Pair}
 -- ---- for `search`: q is the cost that `cost_of` found, k the key that `by` made of it
 
 module _ (c w m d : List ℕ) (x v : ℕ) where
-  pub tight-no-step : choiceIn c v x ≡ 0 → false ≡ tightb (stepBack c) (keyBack c w) m d x v
-  unfolding tightb
+  pub tight-no-step : choiceIn c v x ≡ 0 → false ≡ isTight (stepBack c) (keyBack c w) m d x v
+  unfolding isTight
   tight-no-step e = rw (eq-eqb (choiceIn c v x) 0 e)
 
-  pub tight-no-mark : (choiceIn c v x ≡ 0 → ⊥) → (getD m v 0 ≡ 2 → ⊥) → false ≡ tightb (stepBack c) (keyBack c w) m d x v
-  unfolding tightb
+  pub tight-no-mark : (choiceIn c v x ≡ 0 → ⊥) → (getD m v 0 ≡ 2 → ⊥) → false ≡ isTight (stepBack c) (keyBack c w) m d x v
+  unfolding isTight
   tight-no-mark e f = rw (ne-eqb (choiceIn c v x) 0 e, ne-eqb (getD m v 0) 2 f)
 
   pub tight-key : (choiceIn c v x ≡ 0 → ⊥) → getD m v 0 ≡ 2 → (q : ℕ) → q ≡ costIn c w v x → (k : ℕ) → (k ≡ getD d v 0 + (q * 65536 + 1)) × (q * 65536 + 1 ≤ 281474976710656)
-      → eqb (getD d x 0) k ≡ tightb (stepBack c) (keyBack c w) m d x v
-  unfolding tightb
+      → eqb (getD d x 0) k ≡ isTight (stepBack c) (keyBack c w) m d x v
+  unfolding isTight
   tight-key e f q eq k ek =
       rw (ne-eqb (choiceIn c v x) 0 e, eq-eqb (getD m v 0) 2 f)
       (ap (eqb (getD d x 0)) (ek .0 ∙ ap (λ (i : ℕ). getD d v 0 + (i * 65536 + 1)) eq ∙ add-comm (getD d v 0) (keyBack c w x v)))

@@ -14,10 +14,10 @@ use Rattle.distance.specs.Way.{Way, here, step}
 use Rattle.graph.specs.Reach.{Edge}
 use Rattle.lists.proofs.Cases.{on, on-same, clash}
 use Rattle.lists.proofs.Count.{count-ext, count-flip, count-le}
-use Rattle.distance.specs.Labels.{relM, relD, Relaxed, Labels, live, Shortest}
+use Rattle.distance.specs.Labels.{relaxedMark, relaxedKey, Relaxed, Labels, unsettled, Shortest}
 
-pub live-le : (n : ℕ) (m : List ℕ) → live n m ≤ n
-unfolding live
+pub live-le : (n : ℕ) (m : List ℕ) → unsettled n m ≤ n
+unfolding unsettled
 live-le n m = count-le (λ v. not (eqb (getD m v 0) 2)) n
 
 -- cases on a mark
@@ -33,7 +33,7 @@ data How (e : Bool) (m d c m′ d′ : ℕ) : Type 0 where
   fresh : e ≡ true → m ≡ 0 → m′ ≡ 1 → d′ ≡ c → How e m d c m′ d′
   shorter : e ≡ true → m ≡ 1 → m′ ≡ 1 → d′ ≡ c → c ≤ d → How e m d c m′ d′
 
-how : (e : Bool) (m d c : ℕ) → m ≤ 2 → How e m d c (relM e m) (relD e m d c)
+how : (e : Bool) (m d c : ℕ) → m ≤ 2 → How e m d c (relaxedMark e m) (relaxedKey e m d c)
 how e m d c l =
     on e
     (λ t. cases m l
@@ -168,8 +168,8 @@ module _ {E : ℕ → ℕ → Bool} {W : ℕ → ℕ → ℕ} {n s b r : ℕ} {m
   }
 
   -- one number fewer is not settled
-  pub live-more : live n m ≡ suc (live n m′)
-  unfolding live
+  pub live-more : unsettled n m ≡ suc (unsettled n m′)
+  unfolding unsettled
   live-more =
       count-flip (λ v. not (eqb (getD (set m u 2) v 0) 2)) (λ v. not (eqb (getD m v 0) 2)) u n lu
       (rw (eq-eqb (getD (set m u 2) u 0) 2 at-u))

@@ -18,7 +18,7 @@ use Rattle.order.proofs.Least.{least-hit, least-le}
 use Rattle.order.specs.Least.{least}
 use Rattle.order.specs.Sort.{LexLe}
 use Rattle.distance.specs.Best.{Walk, total, Best}
-use Rattle.distance.specs.Path.{key, tightb, hop, path}
+use Rattle.distance.specs.Path.{key, isTight, hop, path}
 
 pub key-total : (W : ℕ → ℕ → ℕ) (x : ℕ) (l : List ℕ) → total (key W) x l ≡ total W x l * 65536 + length l
 key-total W x [] = refl
@@ -75,25 +75,25 @@ module _ (E : ℕ → ℕ → Bool) (W : ℕ → ℕ → ℕ) (n y : ℕ) (m d :
       let r = real v (e .1) t in
       omega (arith, under x (v ∷ r .0) (e, r .1) .1, r .2)
 
-  tight-is : (x v : ℕ) → E x v ≡ true → getD m v 0 ≡ 2 → getD d x 0 ≡ key W x v + getD d v 0 → tightb E (key W) m d x v ≡ true
-  unfolding tightb
+  tight-is : (x v : ℕ) → E x v ≡ true → getD m v 0 ≡ 2 → getD d x 0 ≡ key W x v + getD d v 0 → isTight E (key W) m d x v ≡ true
+  unfolding isTight
   tight-is x v e t q = rw (e, eq-eqb (getD m v 0) 2 t, eq-eqb (getD d x 0) (key W x v + getD d v 0) q)
 
-  tight-has : (x v : ℕ) → tightb E (key W) m d x v ≡ true → (E x v ≡ true) × (getD m v 0 ≡ 2) × (getD d x 0 ≡ key W x v + getD d v 0)
-  unfolding tightb
+  tight-has : (x v : ℕ) → isTight E (key W) m d x v ≡ true → (E x v ≡ true) × (getD m v 0 ≡ 2) × (getD d x 0 ≡ key W x v + getD d v 0)
+  unfolding isTight
   tight-has x v e =
       let a : Bool = E x v in
       let b : Bool = eqb (getD m v 0) 2 in
       let c : Bool = eqb (getD d x 0) (key W x v + getD d v 0) in
       (and-true-left a (b && c) e, eqb-true (getD m v 0) 2 (and-true-left b c (and-true-right a (b && c) e)), eqb-true (getD d x 0) (key W x v + getD d v 0) (and-true-right b c (and-true-right a (b && c) e)))
 
-  hop-has : (x : ℕ) → hop E (key W) n m d x < n → tightb E (key W) m d x (hop E (key W) n m d x) ≡ true
+  hop-has : (x : ℕ) → hop E (key W) n m d x < n → isTight E (key W) m d x (hop E (key W) n m d x) ≡ true
   unfolding hop
-  hop-has x l = least-hit (tightb E (key W) m d x) n 0 (omega arith)
+  hop-has x l = least-hit (isTight E (key W) m d x) n 0 (omega arith)
 
-  hop-le : (x v : ℕ) → v < n → tightb E (key W) m d x v ≡ true → hop E (key W) n m d x ≤ v
+  hop-le : (x v : ℕ) → v < n → isTight E (key W) m d x v ≡ true → hop E (key W) n m d x ≤ v
   unfolding hop
-  hop-le x v l t = least-le (tightb E (key W) m d x) n 0 v (omega arith) (omega arith) t
+  hop-le x v l t = least-le (isTight E (key W) m d x) n 0 v (omega arith) (omega arith) t
 
   path-short : (f x : ℕ) → length (path E (key W) n m d f x) ≤ f
   unfolding path

@@ -61,10 +61,10 @@ unfoldable pub stay : ℕ → ℕ → Option (List ℕ)
 stay x y = cond (eqb x y) (some []) none
 
 -- the best walk from x to y of at most f steps
-unfoldable pub within : (ℕ → ℕ → Bool) → (ℕ → ℕ → ℕ) → List ℕ → ℕ → ℕ → ℕ → Option (List ℕ)
-within E W vs y zero x = stay x y
-within E W vs y (suc f) x = better W x (stay x y) (bestOver E W x (λ v. within E W vs y f v) vs)
+unfoldable pub bestWithin : (ℕ → ℕ → Bool) → (ℕ → ℕ → ℕ) → List ℕ → ℕ → ℕ → ℕ → Option (List ℕ)
+bestWithin E W vs y zero x = stay x y
+bestWithin E W vs y (suc f) x = better W x (stay x y) (bestOver E W x (λ v. bestWithin E W vs y f v) vs)
 
 -- the best walk from x to y over the vertices vs: no best walk has as many steps as there are vertices
 unfoldable pub best : (ℕ → ℕ → Bool) → (ℕ → ℕ → ℕ) → List ℕ → ℕ → ℕ → Option (List ℕ)
-best E W vs x y = within E W vs y (length vs) x
+best E W vs x y = bestWithin E W vs y (length vs) x

@@ -6,7 +6,7 @@ use Prim.Native.Nat.{ℕ, _+_, _-_, _*_, _≤_, _<_}
 use lib.Dec.{eqb}
 use lib.ListN.{length, getD, set}
 use Rattle.lists.specs.Tests.{count}
-use Rattle.distance.specs.Labels.{relM, relD, Labels, live, Nearest}
+use Rattle.distance.specs.Labels.{relaxedMark, relaxedKey, Labels, unsettled, Nearest}
 
 -- what the matrix c chose for the step from u to v: 0 where there is no such step
 abbrev pub choiceIn : List ℕ → ℕ → ℕ → ℕ
@@ -50,11 +50,11 @@ abbrev pub Within : ℕ → List ℕ → Type 0
 Within n c = (u v : ℕ) → u < n → v < 256 → stepIn c u v ≡ true → v < n
 
 -- what the step from the settled number u does to the mark and the key of v
-pub record One (E : ℕ → ℕ → Bool) (W : ℕ → ℕ → ℕ) (u v base : ℕ) (m d m′ d′ : List ℕ) : Type 0 where
+pub record RelaxedAt (E : ℕ → ℕ → Bool) (W : ℕ → ℕ → ℕ) (u v base : ℕ) (m d m′ d′ : List ℕ) : Type 0 where
   pub bounded : E u v ≡ true → W u v ≤ 281474976710656
-  pub marks : m′ ≡ set m v (relM (E u v) (getD m v 0))
-  pub keys : d′ ≡ set d v (relD (E u v) (getD m v 0) (getD d v 0) (base + W u v))
+  pub marks : m′ ≡ set m v (relaxedMark (E u v) (getD m v 0))
+  pub keys : d′ ≡ set d v (relaxedKey (E u v) (getD m v 0) (getD d v 0) (base + W u v))
 
 -- the search: every settled number adds a step's bound
 abbrev pub Search : (ℕ → ℕ → Bool) → (ℕ → ℕ → ℕ) → ℕ → ℕ → List ℕ → List ℕ → ℕ → Type 0
-Search E W n s m d u = Labels E W n s ((n - live n m) * 281474976710656) (n - live n m) m d × Nearest n m d u
+Search E W n s m d u = Labels E W n s ((n - unsettled n m) * 281474976710656) (n - unsettled n m) m d × Nearest n m d u

@@ -10,18 +10,18 @@ use Rattle.graph.specs.Reach.{Edge}
 use Rattle.lists.specs.Tests.{count}
 
 -- what the step from the settled number makes of a mark and of a key; b: there is a step, c: the total by it
-abbrev pub relM : Bool → ℕ → ℕ
-relM b m = cond (b && eqb m 0) 1 m
+abbrev pub relaxedMark : Bool → ℕ → ℕ
+relaxedMark b m = cond (b && eqb m 0) 1 m
 
-abbrev pub relD : Bool → ℕ → ℕ → ℕ → ℕ
-relD b m d c = cond (b && (eqb m 0 || (eqb m 1 && ltb c d))) c d
+abbrev pub relaxedKey : Bool → ℕ → ℕ → ℕ → ℕ
+relaxedKey b m d c = cond (b && (eqb m 0 || (eqb m 1 && ltb c d))) c d
 
 pub record Relaxed (E : ℕ → ℕ → Bool) (W : ℕ → ℕ → ℕ) (B n u : ℕ) (m d m′ d′ : List ℕ) : Type 0 where
   pub bounded : (v : ℕ) → v < n → E u v ≡ true → W u v ≤ B
   pub wide : length m′ ≡ 256
   pub long : length d′ ≡ 256
-  pub marks : (v : ℕ) → v < n → getD m′ v 0 ≡ relM (E u v) (getD m v 0)
-  pub keys : (v : ℕ) → v < n → getD d′ v 0 ≡ relD (E u v) (getD m v 0) (getD d v 0) (getD d u 0 + W u v)
+  pub marks : (v : ℕ) → v < n → getD m′ v 0 ≡ relaxedMark (E u v) (getD m v 0)
+  pub keys : (v : ℕ) → v < n → getD d′ v 0 ≡ relaxedKey (E u v) (getD m v 0) (getD d v 0) (getD d u 0 + W u v)
 
 -- the labels of a search from s; none is above b, or has a walk of more than r steps
 pub record Labels (E : ℕ → ℕ → Bool) (W : ℕ → ℕ → ℕ) (n s b r : ℕ) (m d : List ℕ) : Type 0 where
@@ -37,8 +37,8 @@ pub record Labels (E : ℕ → ℕ → Bool) (W : ℕ → ℕ → ℕ) (n s b r 
   pub order : (u v : ℕ) → u < n → v < n → getD m u 0 ≡ 2 → getD m v 0 ≡ 1 → getD d u 0 ≤ getD d v 0
 
 -- how many numbers are not settled
-unfoldable pub live : ℕ → List ℕ → ℕ
-live n m = count (λ v. not (eqb (getD m v 0) 2)) n
+unfoldable pub unsettled : ℕ → List ℕ → ℕ
+unsettled n m = count (λ v. not (eqb (getD m v 0) 2)) n
 
 -- what the search leaves
 pub record Shortest (E : ℕ → ℕ → Bool) (W : ℕ → ℕ → ℕ) (n s : ℕ) (m d : List ℕ) : Type 0 where

@@ -11,11 +11,11 @@ abbrev pub key : (ℕ → ℕ → ℕ) → ℕ → ℕ → ℕ
 key W x v = W x v * 65536 + 1
 
 -- the step from x that keeps to a least key
-unfoldable pub tightb : (ℕ → ℕ → Bool) → (ℕ → ℕ → ℕ) → List ℕ → List ℕ → ℕ → ℕ → Bool
-tightb E K m d x v = E x v && (eqb (getD m v 0) 2 && eqb (getD d x 0) (K x v + getD d v 0))
+unfoldable pub isTight : (ℕ → ℕ → Bool) → (ℕ → ℕ → ℕ) → List ℕ → List ℕ → ℕ → ℕ → Bool
+isTight E K m d x v = E x v && (eqb (getD m v 0) 2 && eqb (getD d x 0) (K x v + getD d v 0))
 
 unfoldable pub hop : (ℕ → ℕ → Bool) → (ℕ → ℕ → ℕ) → ℕ → List ℕ → List ℕ → ℕ → ℕ
-hop E K n m d x = least (tightb E K m d x) n 0
+hop E K n m d x = least (isTight E K m d x) n 0
 
 -- from x down the keys, at most f steps
 unfoldable pub path : (ℕ → ℕ → Bool) → (ℕ → ℕ → ℕ) → ℕ → List ℕ → List ℕ → ℕ → ℕ → List ℕ

@@ -4,8 +4,8 @@ ghost use Prim.Native.Nat.{ℕ, _+_, _*_, _<_, _≤_};
 ghost use lib.ListN.{length, getD};
 ghost use Rattle.distance.specs.Labels.{Relaxed, Shortest};
 ghost use Rattle.distance.specs.Blocks.{Blocks};
-ghost use Rattle.distance.specs.Cost.{stepIn, keyIn, stepBack, costBack, keyBack, Listed, Within, One};
-ghost use Rattle.distance.specs.Path.{tightb, hop};
+ghost use Rattle.distance.specs.Cost.{stepIn, keyIn, stepBack, costBack, keyBack, Listed, Within, RelaxedAt};
+ghost use Rattle.distance.specs.Path.{isTight, hop};
 ghost use Rattle.distance.specs.Descent.{Descended, Pair};
 
 mod blocks;
@@ -38,7 +38,7 @@ fn relax_one(
     b: &mut [u64; 16],
 )
     requires { ⌜ (n ≤ 256) × (u < 256) × (v < n) × (base ≤ 144115188075855872) × (length (now m) ≡ 256) × (length (now d) ≡ 256) × Blocks n (now m) (now d) (now b) ⌝ }
-    ensures { λ r. ⌜ One (stepIn (now (c .entry))) (keyIn (now (c .entry)) (now (w .entry))) u v base (now (m .entry)) (now (d .entry)) (now (m .exit)) (now (d .exit)) × Blocks n (now (m .exit)) (now (d .exit)) (now (b .exit)) ⌝ }
+    ensures { λ r. ⌜ RelaxedAt (stepIn (now (c .entry))) (keyIn (now (c .entry)) (now (w .entry))) u v base (now (m .entry)) (now (d .entry)) (now (m .exit)) (now (d .exit)) × Blocks n (now (m .exit)) (now (d .exit)) (now (b .exit)) ⌝ }
 {
     let h = c[u * 256 + v];
     if h == 0 {
@@ -108,7 +108,7 @@ pub fn dijkstra(
 // Whether the step from x to v keeps to a least key: the matrix holds the steps against their direction.
 fn tight(c: &[u8; 65536], w: &[u32; 256], m: &[u8; 256], d: &[u64; 256], x: usize, v: usize) -> bool
     requires { ⌜ (x < 256) × (v < 256) × (getD (now m) v 0 ≡ 2 → getD (now d) v 0 ≤ 72057594037927936) ⌝ }
-    ensures { λ r. ⌜ r ≡ tightb (stepBack (now (c .entry))) (keyBack (now (c .entry)) (now (w .entry))) (now (m .entry)) (now (d .entry)) x v ⌝ }
+    ensures { λ r. ⌜ r ≡ isTight (stepBack (now (c .entry))) (keyBack (now (c .entry)) (now (w .entry))) (now (m .entry)) (now (d .entry)) x v ⌝ }
 {
     let h = c[v * 256 + x];
     if h == 0 {

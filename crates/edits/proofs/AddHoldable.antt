@@ -15,7 +15,7 @@ use Rattle.lists.proofs.Maps.{map-length, map-snoc}
 use Rattle.lists.proofs.Memb.{memb-left, memb-at}
 use Rattle.layout.specs.Content.{Hyperedge, Table, vertexNumber, hyperedgeNumber, liveVertices, liveHyperedges, isLive, numbered, membersLive}
 use Rattle.layout.specs.Layout.{vertexLimit, hyperedgeLimit}
-use Rattle.layout.specs.WellFormed.{counted, holdable}
+use Rattle.layout.specs.WellFormed.{countFits, holdable}
 use Rattle.layout.proofs.Holdable.{Holdable, holdable-of, holdable-by}
 use Rattle.edits.specs.Edits.{addVertex, addHyperedge, withMembers, updateHyperedge}
 
@@ -47,8 +47,8 @@ length-more : {A : Type 0} (xs : List A) (x : A) (most : ℕ) → length xs < mo
 length-more xs x most h = rw (length-append xs (x ∷ [])) (omega arith)
 
 -- a member list that passes 2, 6 and 3
-list-counted : (L : ℕ) (e : Hyperedge) → 0 < length (e .members) → length (e .members) ≤ L → counted L e ≡ true
-unfolding counted
+list-counted : (L : ℕ) (e : Hyperedge) → 0 < length (e .members) → length (e .members) ≤ L → countFits L e ≡ true
+unfolding countFits
 list-counted L e pos le = and-both _ _ (lt-ltb 0 _ pos) (le-leb _ L le)
 
 -- ---- add_vertex
@@ -112,7 +112,7 @@ module _ (L : ℕ) (ms : List ℕ) (t : Table) (h : holdable L t ≡ true) (pos 
       holdable-by (record {
         vertices-le = p .vertices-le;
         hyperedges-le = length-more (t .hyperedges) e hyperedgeLimit room;
-        counts = all-more (counted L) (t .hyperedges) e (p .counts) (list-counted L e pos le);
+        counts = all-more (countFits L) (t .hyperedges) e (p .counts) (list-counted L e pos le);
         vertices-numbered = p .vertices-numbered;
         hyperedges-numbered = rw (add-hyperedge-live ms w t) (numbered-more (liveHyperedges t) (t .nextHyperedge) (p .hyperedges-numbered));
         members-live = all-more (membersLive (liveVertices t)) (t .hyperedges) e (p .members-live) live;
@@ -126,7 +126,7 @@ module _ (L : ℕ) (ms : List ℕ) (t : Table) (h : holdable L t ≡ true) (pos 
       holdable-by (record {
         vertices-le = p .vertices-le;
         hyperedges-le = rw map-length (p .hyperedges-le);
-        counts = all-map (counted L) (withMembers x ms) (t .hyperedges) (with-either (counted L) x ms (λ e. list-counted L _ pos le)) (p .counts);
+        counts = all-map (countFits L) (withMembers x ms) (t .hyperedges) (with-either (countFits L) x ms (λ e. list-counted L _ pos le)) (p .counts);
         vertices-numbered = p .vertices-numbered;
         hyperedges-numbered = rw (update-live x ms t) (p .hyperedges-numbered);
         members-live = all-map (membersLive (liveVertices t)) (withMembers x ms) (t .hyperedges) (with-either (membersLive (liveVertices t)) x ms (λ e. live)) (p .members-live);

@@ -14,7 +14,7 @@ use Rattle.lists.proofs.Maps.{map-length}
 use Rattle.lists.proofs.Kept.{all-then, all-both, all-map, filter-map, filter-length, filter-pass, all-kept, keys-kept, ascending-kept, memb-filter}
 use Rattle.layout.specs.Content.{Vertex, Hyperedge, Table, vertexNumber, hyperedgeNumber, isLive, numbered, membersLive, valid}
 use Rattle.layout.specs.Layout.{vertexLimit, hyperedgeLimit}
-use Rattle.layout.specs.WellFormed.{counted, holdable}
+use Rattle.layout.specs.WellFormed.{countFits, holdable}
 use Rattle.edits.specs.Edits.{without, hasMembers, removeVertex, removeHyperedge}
 
 -- a filtered list is not longer
@@ -43,12 +43,12 @@ module _ (v : ℕ) where
       all-then _ _ _ (live-without vs)
       (all-both _ _ _ (all-kept (otherThan itself v) (isLive (map vertexNumber vs)) (e .members) h) (filter-pass (otherThan itself v) (e .members)))
 
-  fits-without : (L : ℕ) (e : Hyperedge) → counted L e ≡ true → fits L (without v e) ≡ true
-  unfolding counted without fits
+  fits-without : (L : ℕ) (e : Hyperedge) → countFits L e ≡ true → fits L (without v e) ≡ true
+  unfolding countFits without fits
   fits-without L e h = few-kept (otherThan itself v) (e .members) L (and-right _ _ h)
 
-  counted-without : (L : ℕ) (es : List Hyperedge) → all (counted L) es ≡ true → all (counted L) (filter hasMembers (map (without v) es)) ≡ true
-  unfolding counted hasMembers fits
+  counted-without : (L : ℕ) (es : List Hyperedge) → all (countFits L) es ≡ true → all (countFits L) (filter hasMembers (map (without v) es)) ≡ true
+  unfolding countFits hasMembers fits
   counted-without L es h =
       all-both hasMembers (fits L) _ (filter-pass hasMembers (map (without v) es))
       (all-kept hasMembers (fits L) (map (without v) es) (all-map (without v) (fits L) es ∙ all-then _ _ es (fits-without L) h))

@@ -25,7 +25,7 @@ use Rattle.layout.proofs.Read.{members-le}
 use Rattle.layout.proofs.Record.{hyperedge-moved}
 use Rattle.layout.proofs.Words.{words-read}
 use Rattle.edits.specs.Edits.{without, hasMembers}
-use Rattle.edits.specs.Removing.{others, stripped, stripVertex, Stripped}
+use Rattle.edits.specs.Removing.{otherWords, stripped, stripVertex, Stripped}
 use Rattle.edits.proofs.Laid.{with-hyperedges}
 
 -- ---- one record: F and its padding are stored behind the three words of its head
@@ -74,14 +74,14 @@ record-stored L d F a c x w d₂ d₃ d₄ h ec hc e₂ e₃ e₄ =
 
 -- what `strip_record` does, from what its callees did
 pub record-stripped : (v : ℕ) (d : List ℕ) (j k n c : ℕ) (d₂ d₃ d₄ : List ℕ) → length d ≡ size limit → j < hyperedgeLimit → k ≤ j → countAt limit d j ≤ limit → n ≡ countAt limit d j → c ≤ n
-    → c ≡ length (others v (take n (drop (hyperedgeWord limit j + 3) d))) → d₂ ≡ paste d (hyperedgeWord limit k + 3) (others v (take n (drop (hyperedgeWord limit j + 3) d))) c
+    → c ≡ length (otherWords v (take n (drop (hyperedgeWord limit j + 3) d))) → d₂ ≡ paste d (hyperedgeWord limit k + 3) (otherWords v (take n (drop (hyperedgeWord limit j + 3) d))) c
     → d₃ ≡ paste d₂ (hyperedgeWord limit k + 3 + c) (replicate (limit - c) 0) (limit - c)
     → d₄ ≡ set (set (set d₃ (hyperedgeWord limit k) (getD d (hyperedgeWord limit j) 0)) (hyperedgeWord limit k + 1) (getD d (hyperedgeWord limit j + 1) 0)) (hyperedgeWord limit k + 2) c
     → (c ≡ length (without v (hyperedgeAt limit d j) .members)) × (d₄ ≡ paste d (hyperedgeWord limit k) (hyperedgeWords limit (without v (hyperedgeAt limit d j))) (recordSize limit))
-unfolding without others
+unfolding without otherWords
 record-stripped v d j k n c d₂ d₃ d₄ len hj hk hc en le ec e₂ e₃ e₄ =
-    let F : List ℕ = others v (take n (drop (hyperedgeWord limit j + 3) d)) in
-    let m : F ≡ others v (membersAt limit d j) = ap (λ (i : ℕ). others v (take i (drop (hyperedgeWord limit j + 3) d))) en in (
+    let F : List ℕ = otherWords v (take n (drop (hyperedgeWord limit j + 3) d)) in
+    let m : F ≡ otherWords v (membersAt limit d j) = ap (λ (i : ℕ). otherWords v (take i (drop (hyperedgeWord limit j + 3) d))) en in (
       ec ∙ ap length m,
       record-stored limit d F (hyperedgeWord limit k) c (getD d (hyperedgeWord limit j) 0) (getD d (hyperedgeWord limit j + 1) 0) d₂ d₃ d₄ (omega arith) ec (omega arith) e₂ e₃ e₄
           ∙ ap (λ (ms : List ℕ). paste d (hyperedgeWord limit k) (getD d (hyperedgeWord limit j) 0 ∷ getD d (hyperedgeWord limit j + 1) 0 ∷ length ms ∷ pad limit ms) (recordSize limit)) m,

@@ -9,8 +9,8 @@ use Rattle.layout.specs.Layout.{hyperedgesAt, hyperedgeWord, hyperedgeAt, hyper
 use Rattle.edits.specs.Edits.{without, hasMembers}
 
 -- the words other than v
-unfoldable pub others : ℕ → List ℕ → List ℕ
-others v xs = filter (otherThan itself v) xs
+unfoldable pub otherWords : ℕ → List ℕ → List ℕ
+otherWords v xs = filter (otherThan itself v) xs
 
 -- every list without v, and those that held it alone dropped
 unfoldable pub stripped : ℕ → List Hyperedge → List Hyperedge

@@ -11,7 +11,7 @@ ghost use Rattle.layout.specs.Layout.{limit, vertexLimit, hyperedgeLimit, verte
 ghost use Rattle.layout.specs.WellFormed.{Formed};
 ghost use Rattle.layout.specs.Answers.{onFormed, result};
 ghost use Rattle.edits.specs.Edits.{without};
-ghost use Rattle.edits.specs.Removing.{others, Stripped, stripVertex};
+ghost use Rattle.edits.specs.Removing.{otherWords, Stripped, stripVertex};
 ghost use Rattle.edits.specs.Results.{removeVertexResult};
 use layout::Answer;
 use layout::Found;
@@ -34,7 +34,7 @@ fn drop_vertex(t: &mut [u32], i: usize, n: usize)
 // Moves those of the n words from `from` on that are not v to `to` on, and says how many.
 fn keep_others(t: &mut [u32], from: usize, to: usize, n: usize, v: u32) -> usize
     requires { ⌜ (from + n ≤ length (now t)) × (to ≤ from) ⌝ }
-    ensures { λ r. ⌜ (r ≤ n) × ((r ≡ length (others v (take n (drop from (now (t .entry)))))) × (now (t .exit) ≡ paste (now (t .entry)) to (others v (take n (drop from (now (t .entry))))) r)) ⌝ }
+    ensures { λ r. ⌜ (r ≤ n) × ((r ≡ length (otherWords v (take n (drop from (now (t .entry)))))) × (now (t .exit) ≡ paste (now (t .entry)) to (otherWords v (take n (drop from (now (t .entry))))) r)) ⌝ }
 {
     let mut c = 0;
     let mut i = 0;

@@ -18,7 +18,7 @@ use Rattle.lists.proofs.Memb.{memb-getD}
 use mathlib.Core.Logic.{⊎-elim}
 use Rattle.layout.specs.Content.{Vertex, Hyperedge, Table, vertexNumber, hyperedgeNumber, liveVertices, isLive, numbered, membersLive}
 use Rattle.layout.specs.Layout.{vertexLimit, hyperedgeLimit, limit}
-use Rattle.layout.specs.WellFormed.{counted}
+use Rattle.layout.specs.WellFormed.{countFits}
 use Rattle.layout.proofs.Back.{noVertex, noHyperedge}
 use Rattle.layout.proofs.Holdable.{Holdable}
 use Rattle.frames.specs.Frames.{headLine, vertexLine, hyperedgeLine, hyperedgeLength, vertexOf, hyperedgeOf}
@@ -201,8 +201,8 @@ module _ (text : List ℕ) (a b : ℕ) (s : Begun text a b) where
   unfolding hyperedgeGood
   hyperedge-fit j h = and-left _ _ (and-right _ _ (s .hyperedges j h))
 
-  hyperedge-counted : (j : ℕ) → j < m → counted limit (filledHyperedge text a b j) ≡ true
-  unfolding hyperedgeGood counted
+  hyperedge-counted : (j : ℕ) → j < m → countFits limit (filledHyperedge text a b j) ≡ true
+  unfolding hyperedgeGood countFits
   hyperedge-counted j h =
       on-below j b (λ l. rw (old-hyperedge j l) (and-left _ _ (and-right _ _ (and-right _ _ (s .hyperedges j l))))) (λ l. rw (new-hyperedge j l) (and-both _ _ refl refl))
 
@@ -224,7 +224,7 @@ module _ (text : List ℕ) (a b : ℕ) (s : Begun text a b) where
     hyperedges-numbered =
         rw (map-tab hyperedgeNumber (filledHyperedge text a b) m)
         (fill-numbered (hyperedgeNumberIn text) b m (nextHyperedgeOf text) m-room (s .hyperedges-le) hyperedge-fit);
-    counts = all-of (counted limit) (t .hyperedges) noHyperedge (λ j h. rw (filled-hyperedge j (rw filled-m at h)) (hyperedge-counted j (rw filled-m at h)));
+    counts = all-of (countFits limit) (t .hyperedges) noHyperedge (λ j h. rw (filled-hyperedge j (rw filled-m at h)) (hyperedge-counted j (rw filled-m at h)));
     members-live = all-of (membersLive (liveVertices t)) (t .hyperedges) noHyperedge (λ j h. rw (filled-hyperedge j (rw filled-m at h)) (hyperedge-live j (rw filled-m at h)));
   }
 

@@ -17,7 +17,7 @@ use Rattle.lists.proofs.Flat.{tab-getD}
 use Rattle.lists.proofs.Maps.{map-length}
 use Rattle.layout.specs.Content.{Table, vertexNumber, hyperedgeNumber, liveVertices, liveHyperedges, numbered, membersLive}
 use Rattle.layout.specs.Layout.{vertexLimit, hyperedgeLimit, limit}
-use Rattle.layout.specs.WellFormed.{counted}
+use Rattle.layout.specs.WellFormed.{countFits}
 use Rattle.layout.proofs.Back.{noVertex, noHyperedge}
 use Rattle.layout.proofs.Read.{numbered-ascends}
 use Rattle.layout.proofs.Holdable.{Holdable, members-le}
@@ -126,7 +126,7 @@ module _ (text : List ℕ) (t : Table) (d : Holdable limit t) (w : Worded t) (g 
         (rw (hyperedges-due (omega arith), next-hyperedge-is (omega arith), ← e) (number-good (hyperedgeNumberIn text) (liveHyperedges t) (t .nextHyperedge) j (d .hyperedges-numbered) (rw e h) (λ k q.
         ap hyperedgeNumber (hyperedge-is k (omega arith)) ∙ sym (List·getD-map hyperedgeNumber (t .hyperedges) k noHyperedge))))
         (and-both _ _
-        (rw (hyperedge-is j l) (all-at (counted limit) (t .hyperedges) j noHyperedge (d .counts) h))
+        (rw (hyperedge-is j l) (all-at (countFits limit) (t .hyperedges) j noHyperedge (d .counts) h))
         (rw (hyperedge-is j l, vertices-are (omega arith)) (all-at (membersLive (liveVertices t)) (t .hyperedges) j noHyperedge (d .members-live) h))))
 
     pub line-good : (k : ℕ) → k < g → lineGood text k ≡ true

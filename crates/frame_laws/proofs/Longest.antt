@@ -14,7 +14,7 @@ use Rattle.lists.proofs.Tab.{length-tab, getD-tab, map-tab}
 use Rattle.lists.proofs.Memb.{memb-getD}
 use Rattle.layout.specs.Content.{Hyperedge, Table, vertexNumber, hyperedgeNumber, liveVertices, isLive, membersLive}
 use Rattle.layout.specs.Layout.{vertexLimit, hyperedgeLimit, limit, read}
-use Rattle.layout.specs.WellFormed.{counted}
+use Rattle.layout.specs.WellFormed.{countFits}
 use Rattle.layout.proofs.Back.{noVertex, noHyperedge, read-holdable}
 use Rattle.layout.proofs.Holdable.{Holdable, holdable-of, members-le}
 use Rattle.frames.specs.Frames.{vertexOf, hyperedgeOf, hyperedgeLength, frameText}
@@ -89,13 +89,13 @@ full-live zero = refl
 full-live (suc n) = and-both _ _ zero-live (full-live n)
 
 full-held : Holdable limit full
-unfolding counted membersLive
+unfolding countFits membersLive
 full-held = record {
   vertices-le = rw full-vertices (omega arith);
   hyperedges-le = rw full-hyperedges (omega arith);
   vertices-numbered = rw (map-tab vertexNumber (λ (i : ℕ). vertexOf i 0) vertexLimit) (numbered-tab (λ i. i) vertexLimit vertexLimit (λ i h. omega arith) (λ i h. h));
   hyperedges-numbered = rw (map-tab hyperedgeNumber fullHyperedge hyperedgeLimit) (numbered-tab (λ j. j) hyperedgeLimit hyperedgeLimit (λ j h. omega arith) (λ j h. h));
-  counts = all-of (counted limit) (full .hyperedges) noHyperedge (λ j h. rw (full-hyperedge j h) (and-both _ _ refl refl));
+  counts = all-of (countFits limit) (full .hyperedges) noHyperedge (λ j h. rw (full-hyperedge j h) (and-both _ _ refl refl));
   members-live = all-of (membersLive (liveVertices full)) (full .hyperedges) noHyperedge (λ j h. rw (full-hyperedge j h) (full-live limit));
 }
 

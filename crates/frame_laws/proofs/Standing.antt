@@ -13,7 +13,7 @@ use Rattle.lists.proofs.Cases.{and-left, and-right, and-both}
 use Rattle.lists.proofs.Tab.{tab-ext}
 use Rattle.lists.proofs.Flat.{flat-append}
 use Rattle.layout.specs.Content.{Vertex, Hyperedge, Table}
-use Rattle.frames.specs.Frames.{byteValues, byteOf, numberBytes, shortBytes, headFrame, vertexFrame, hyperedgeFrame, check, sealed, byteDigits, digits, lineEnd, line, headLine, vertexLine, hyperedgeLine, vertexOf}
+use Rattle.frames.specs.Frames.{byteValues, byteOf, numberBytes, shortBytes, headFrame, vertexFrame, hyperedgeFrame, check, sealed, byteDigits, digits, lineFeed, line, headLine, vertexLine, hyperedgeLine, vertexOf}
 use Rattle.frames.specs.Reading.{byteAt, shortAt, numberAt, standsAt, nextVertexOf, nextHyperedgeOf, verticesDue, hyperedgesDue, numberIn, weightIn, countIn, memberIn, hyperedgeFrom}
 use Rattle.frames.specs.Bytes.{bytesAt}
 use Rattle.frames.specs.Faulty.{isWord}
@@ -165,7 +165,7 @@ module _ (text : List ℕ) (p : ℕ) (e : Hyperedge) (st : standsAt text p (hype
   hyperedgeOn = hyperedgeLine e ++ drop (p + length (hyperedgeLine e)) text
 
   abbrev behindMembers : List ℕ
-  behindMembers = (digits (check (hyperedgeFrame e) ∷ []) ++ lineEnd) ++ drop (p + length (hyperedgeLine e)) text
+  behindMembers = (digits (check (hyperedgeFrame e) ∷ []) ++ lineFeed) ++ drop (p + length (hyperedgeLine e)) text
 
   hyperedge-number-is : drop (p + 2) text ≡ digits (numberBytes (e .number)) ++ drop 10 hyperedgeOn
   unfolding hyperedgeLine hyperedgeFrame numberBytes sealed digits flat byteDigits line
@@ -186,8 +186,8 @@ module _ (text : List ℕ) (p : ℕ) (e : Hyperedge) (st : standsAt text p (hype
       let ms : List ℕ = flat numberBytes (e .members) in
       let c : List ℕ = check (hyperedgeFrame e) ∷ [] in
       further text p 20 hyperedgeOn (digits ms ++ behindMembers) (stands-eq text p (hyperedgeLine e) st) (
-      ap (λ (l : List ℕ). (l ++ lineEnd) ++ rest) (flat-append byteDigits ms c)
-      ∙ ap (λ (l : List ℕ). l ++ rest) (append-assoc (digits ms) (digits c) lineEnd) ∙ append-assoc (digits ms) (digits c ++ lineEnd) rest)
+      ap (λ (l : List ℕ). (l ++ lineFeed) ++ rest) (flat-append byteDigits ms c)
+      ∙ ap (λ (l : List ℕ). l ++ rest) (append-assoc (digits ms) (digits c) lineFeed) ∙ append-assoc (digits ms) (digits c ++ lineFeed) rest)
 
   pub count-back : length (e .members) < byteValues → countIn text p ≡ length (e .members)
   count-back h = byte-back text (p + 18) (drop 20 hyperedgeOn) (length (e .members)) h hyperedge-count-is

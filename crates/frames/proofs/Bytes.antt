@@ -14,7 +14,7 @@ use borrow.Author.Tests.{eqb-true}
 use Rattle.lists.specs.Tests.{_and_, every}
 use Rattle.lists.specs.Lists.{flat}
 use Rattle.lists.proofs.Every.{every-at}
-use Rattle.frames.specs.Frames.{byteValues, byteOf, numberBytes, shortBytes, byteSum, balance, digit, byteDigits, digits, numberDigits, lineEnd}
+use Rattle.frames.specs.Frames.{byteValues, byteOf, numberBytes, shortBytes, byteSum, balance, digit, byteDigits, digits, numberDigits, lineFeed}
 use Rattle.frames.specs.Put.{pasted, Put}
 use Rattle.frames.specs.Pairs.{Pairs}
 use Rattle.frames.proofs.Laws.{put-append, put-as}
@@ -125,5 +125,5 @@ pub balance-low : (sum b : ℕ) → b ≡ balance sum → b < byteValues
 unfolding balance
 balance-low sum b e = omega arith
 
-pub end-put : (sum k : ℕ) {at p q : ℕ} {a b c : List ℕ} → k ≡ balance sum → Put at 2 (byteDigits k) a b p → Put p 1 lineEnd b c q → Put at 3 (byteDigits (balance sum) ++ lineEnd) a c q
+pub end-put : (sum k : ℕ) {at p q : ℕ} {a b c : List ℕ} → k ≡ balance sum → Put at 2 (byteDigits k) a b p → Put p 1 lineFeed b c q → Put at 3 (byteDigits (balance sum) ++ lineFeed) a c q
 end-put sum k e f g = put-as refl (rw e) (put-append f g)

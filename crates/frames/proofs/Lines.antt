@@ -9,7 +9,7 @@ use lib.ListN.{length, getD, take, take-append-drop}
 use lib.Seq.{take-suc, take-all}
 use Rattle.lists.specs.Lists.{flat}
 use Rattle.lists.proofs.Flat.{flat-append, flat-snoc}
-use Rattle.frames.specs.Frames.{byteValues, numberBytes, shortBytes, headFrame, vertexFrame, hyperedgeFrame, byteSum, balance, check, sealed, digit, byteDigits, digits, numberDigits, lineEnd, line, vertexLine, hyperedgeLine, vertexOf, hyperedgeOf, headLength, vertexLength, memberLength, hyperedgeLength}
+use Rattle.frames.specs.Frames.{byteValues, numberBytes, shortBytes, headFrame, vertexFrame, hyperedgeFrame, byteSum, balance, check, sealed, digit, byteDigits, digits, numberDigits, lineFeed, line, vertexLine, hyperedgeLine, vertexOf, hyperedgeOf, headLength, vertexLength, memberLength, hyperedgeLength}
 use Rattle.frames.specs.Put.{pasted, Put}
 use Rattle.frames.proofs.Laws.{put-append, put-as}
 
@@ -27,13 +27,13 @@ sealed-sum frame = rw sum-append (one (byteSum frame))
     one s = omega arith
 
 -- the digits of a frame, then its last byte and the line feed
-line-put : (frame : List ℕ) (sum : ℕ) {at n p q : ℕ} {a b c : List ℕ} → sum ≡ byteSum frame → Put at n (digits frame) a b p → Put p 3 (byteDigits (balance sum) ++ lineEnd) b c q
+line-put : (frame : List ℕ) (sum : ℕ) {at n p q : ℕ} {a b c : List ℕ} → sum ≡ byteSum frame → Put at n (digits frame) a b p → Put p 3 (byteDigits (balance sum) ++ lineFeed) b c q
     → Put at (n + 3) (line frame) a c q
 unfolding line sealed check digits
 line-put frame sum e f g = put-as refl line-is (put-append f g)
   where
-    line-is : flat byteDigits frame ++ (byteDigits (balance sum) ++ lineEnd) ≡ flat byteDigits (frame ++ (balance (byteSum frame) ∷ [])) ++ lineEnd
-    line-is = rw (e, flat-snoc) (sym (append-assoc (flat byteDigits frame) (byteDigits (balance (byteSum frame))) lineEnd))
+    line-is : flat byteDigits frame ++ (byteDigits (balance sum) ++ lineFeed) ≡ flat byteDigits (frame ++ (balance (byteSum frame) ∷ [])) ++ lineFeed
+    line-is = rw (e, flat-snoc) (sym (append-assoc (flat byteDigits frame) (byteDigits (balance (byteSum frame))) lineFeed))
 
 -- ---- the head line
 
@@ -53,7 +53,7 @@ head-sum x y n m e f g h = simp sum-append (omega arith)
 pub head-put : (x y n m : ℕ) {p q r s u v i j k l : ℕ} {a b c d e f g : List ℕ}
     → Put 0 6 opening a b p → Put p 8 (numberDigits x) b c q → Put q 8 (numberDigits y) c d r → Put r 4 (digits (shortBytes n)) d e s → Put s 4 (digits (shortBytes m)) e f u
     → i ≡ byteSum (numberBytes x) → j ≡ byteSum (numberBytes y) → k ≡ byteSum (shortBytes n) → l ≡ byteSum (shortBytes m)
-    → Put u 3 (byteDigits (balance (72 + 71 + 49 + (i + j) + (k + l))) ++ lineEnd) f g v → Put 0 headLength (line (headFrame x y n m)) a g v
+    → Put u 3 (byteDigits (balance (72 + 71 + 49 + (i + j) + (k + l))) ++ lineFeed) f g v → Put 0 headLength (line (headFrame x y n m)) a g v
 head-put x y n m o p q r s ei ej ek el z =
     line-put (headFrame x y n m) _ (head-sum x y n m ei ej ek el) (put-as refl (head-is x y n m) (put-append o (put-append p (put-append q (put-append r s))))) z
 
@@ -78,7 +78,7 @@ vertex-sum x w e f = simp sum-append (omega arith)
 
 pub vertex-put : (x w : ℕ) {at p q i j : ℕ} {a b c : List ℕ}
     → Put at 18 (recordDigits 1 x w) a b p → i ≡ byteSum (numberBytes x) → j ≡ byteSum (numberBytes w)
-    → Put p 3 (byteDigits (balance (1 + i + j)) ++ lineEnd) b c q → Put at vertexLength (vertexLine (vertexOf x w)) a c q
+    → Put p 3 (byteDigits (balance (1 + i + j)) ++ lineFeed) b c q → Put at vertexLength (vertexLine (vertexOf x w)) a c q
 unfolding vertexLine
 vertex-put x w o ei ej z = line-put (vertexFrame (vertexOf x w)) _ (vertex-sum x w ei ej) (put-as refl (vertex-is x w) o) z
 
@@ -137,7 +137,7 @@ module _ (x w : ℕ) (ms : List ℕ) where
 
   pub hyperedge-put : {at p q r s sum : ℕ} {a b c d e : List ℕ}
       → Put at 18 (recordDigits 2 x w) a b p → Put p 2 (byteDigits (length ms)) b c q → Put q (length ms * memberLength) (flat numberDigits ms) c d r
-      → sum ≡ byteSum (hyperedgeFrame (hyperedgeOf x w ms)) → Put r 3 (byteDigits (balance sum) ++ lineEnd) d e s
+      → sum ≡ byteSum (hyperedgeFrame (hyperedgeOf x w ms)) → Put r 3 (byteDigits (balance sum) ++ lineFeed) d e s
       → Put at (hyperedgeLength (length ms)) (hyperedgeLine (hyperedgeOf x w ms)) a e s
   unfolding hyperedgeLine
   hyperedge-put o p q es z =

@@ -16,7 +16,7 @@ use Rattle.lists.specs.Lists.{all, isBelow, sameList, tab, flat}
 use Rattle.lists.proofs.Cases.{on-below, clash, and-left, and-right, and-both}
 use Rattle.lists.proofs.Every.{every-at}
 use Rattle.lists.proofs.Tab.{tab-ext}
-use Rattle.frames.specs.Frames.{byteValues, byteOf, numberBytes, shortBytes, byteSum, balance, check, sealed, digit, byteDigits, digits, lineEnd, line}
+use Rattle.frames.specs.Frames.{byteValues, byteOf, numberBytes, shortBytes, byteSum, balance, check, sealed, digit, byteDigits, digits, lineFeed, line}
 use Rattle.frames.specs.Reading.{noValue, value, byteAt, shortAt, numberAt, standsAt}
 use Rattle.frames.specs.Bytes.{bytesAt}
 use Rattle.frames.proofs.Lines.{sum-append}
@@ -286,20 +286,20 @@ module _ (text : List ℕ) (p : ℕ) (fr : List ℕ) where
       let is : bytesAt text p (suc k) ≡ fr ++ (byteAt text (p + k * 2) ∷ []) = bytes-snoc text p k ∙ ap (λ (l : List ℕ). l ++ (byteAt text (p + k * 2) ∷ [])) (sym e) in
       let c : byteAt text (p + k * 2) < byteValues = ltb-true _ _ (and-left _ _ (all-append (isBelow byteValues) fr (byteAt text (p + k * 2) ∷ []) (rw is at low) .1)) in
       let seal : bytesAt text p (suc k) ≡ sealed fr = is ∙ ap (λ (x : ℕ). fr ++ (x ∷ [])) (check-is fr (byteAt text (p + k * 2)) c (rw is at sum)) in
-      stands-by text p (digits (sealed fr) ++ lineEnd) (drop (suc (p + suc k * 2)) text) (
+      stands-by text p (digits (sealed fr) ++ lineFeed) (drop (suc (p + suc k * 2)) text) (
       bytes-digits text p (suc k) (omega arith) low
       ∙ ap₂ (λ (a b : List ℕ). a ++ b) (ap digits seal) (drop-cons text (p + suc k * 2) 0 (omega arith) ∙ ap (λ (x : ℕ). x ∷ drop (suc (p + suc k * 2)) text) end)
-      ∙ sym (append-assoc (digits (sealed fr)) lineEnd (drop (suc (p + suc k * 2)) text)))
+      ∙ sym (append-assoc (digits (sealed fr)) lineFeed (drop (suc (p + suc k * 2)) text)))
 
   -- and the other way round
   pub line-parts : p ≤ length text → all (isBelow byteValues) fr ≡ true → standsAt text p (line fr) ≡ true
       → (bytesAt text p (suc (length fr)) ≡ sealed fr) × (getD text (p + suc (length fr) * 2) 0 ≡ 10) × (p + (suc (length fr) * 2 + 1) ≤ length text)
   unfolding line sealed
   line-parts h low st =
-      let rest : List ℕ = drop (p + length (digits (sealed fr) ++ lineEnd)) text in
-      let e : drop p text ≡ digits (sealed fr) ++ (lineEnd ++ rest) = stands-eq text p (digits (sealed fr) ++ lineEnd) st ∙ append-assoc (digits (sealed fr)) lineEnd rest in
+      let rest : List ℕ = drop (p + length (digits (sealed fr) ++ lineFeed)) text in
+      let e : drop p text ≡ digits (sealed fr) ++ (lineFeed ++ rest) = stands-eq text p (digits (sealed fr) ++ lineFeed) st ∙ append-assoc (digits (sealed fr)) lineFeed rest in
       let len : length (sealed fr) ≡ suc (length fr) = length-append fr (check fr ∷ []) ∙ add-one (length fr) in
-      let r = digits-bytes text (sealed fr) p (lineEnd ++ rest) (all-snoc-of (isBelow byteValues) fr (check fr) low (lt-ltb (check fr) byteValues (check-low fr))) e in
+      let r = digits-bytes text (sealed fr) p (lineFeed ++ rest) (all-snoc-of (isBelow byteValues) fr (check fr) low (lt-ltb (check fr) byteValues (check-low fr))) e in
       let b : drop (p + suc (length fr) * 2) text ≡ 10 ∷ rest = ap (λ (n : ℕ). drop (p + n * 2) text) (sym len) ∙ r .1 in (
         ap (bytesAt text p) (sym len) ∙ r .0,
         front text (p + suc (length fr) * 2) 10 rest b .0,

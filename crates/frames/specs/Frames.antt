@@ -25,13 +25,13 @@ unfoldable pub shortBytes : ℕ → List ℕ
 shortBytes x = byteOf x byteValues ∷ byteOf x 1 ∷ []
 
 -- 48 47 31
-abbrev pub mark : List ℕ
-mark = 72 ∷ 71 ∷ 49 ∷ []
+abbrev pub headMark : List ℕ
+headMark = 72 ∷ 71 ∷ 49 ∷ []
 
 -- head: 48 47 31, both next numbers, n and m in two bytes each
 unfoldable pub headFrame : ℕ → ℕ → ℕ → ℕ → List ℕ
 headFrame nextVertex nextHyperedge n m =
-    mark ++ (numberBytes nextVertex ++ (numberBytes nextHyperedge ++ (shortBytes n ++ shortBytes m)))
+    headMark ++ (numberBytes nextVertex ++ (numberBytes nextHyperedge ++ (shortBytes n ++ shortBytes m)))
 
 -- vertices: 01, number, weight
 unfoldable pub vertexFrame : Vertex → List ℕ
@@ -71,12 +71,12 @@ unfoldable pub numberDigits : ℕ → List ℕ
 numberDigits x = digits (numberBytes x)
 
 -- a line feed
-abbrev pub lineEnd : List ℕ
-lineEnd = 10 ∷ []
+abbrev pub lineFeed : List ℕ
+lineFeed = 10 ∷ []
 
 -- one frame a line
 unfoldable pub line : List ℕ → List ℕ
-line frame = digits (sealed frame) ++ lineEnd
+line frame = digits (sealed frame) ++ lineFeed
 
 -- the bytes of a head line, of a vertex line, of a member, and of a hyperedge line with k members
 abbrev pub headLength : ℕ

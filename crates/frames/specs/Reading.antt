@@ -9,7 +9,7 @@ use Rattle.lists.specs.Lists.{sameList, tab}
 use Rattle.layout.specs.declared.Answer.the-variants.{Done, NotWellFormed, BadText}
 use Rattle.layout.specs.Content.{Vertex, Hyperedge, Table, liveVertices, membersLive}
 use Rattle.layout.specs.Layout.{vertexLimit, hyperedgeLimit, limit, size, words}
-use Rattle.layout.specs.WellFormed.{counted}
+use Rattle.layout.specs.WellFormed.{countFits}
 use Rattle.layout.specs.Answers.{Result, result}
 use Rattle.frames.specs.Frames.{byteValues, vertexOf, hyperedgeOf, headFrame, line, vertexLine, hyperedgeLine, headLength, vertexLength, memberLength, hyperedgeLength}
 
@@ -131,7 +131,7 @@ unfoldable pub hyperedgeGood : List ℕ → ℕ → Bool
 hyperedgeGood text j =
     standsAt text (hyperedgePlace text j) (hyperedgeLine (hyperedgeIn text j))
     and numberGood (hyperedgeNumberIn text) (hyperedgesDue text) (nextHyperedgeOf text) j
-    and counted limit (hyperedgeIn text j)
+    and countFits limit (hyperedgeIn text j)
     and membersLive (liveVertices (contentOf text)) (hyperedgeIn text j)
 
 -- the line behind k others: the head, then the vertices, then the hyperedges

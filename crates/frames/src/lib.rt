@@ -7,7 +7,7 @@ ghost use Rattle.lists.specs.Lists.{tab, flat};
 ghost use Rattle.layout.specs.Layout.{limit, vertexLimit, size, hyperedgeCount, vertexAt, hyperedgeAt, membersAt, read};
 ghost use Rattle.layout.specs.WellFormed.{Formed};
 ghost use Rattle.layout.specs.Answers.{result, onFormed};
-ghost use Rattle.frames.specs.Frames.{byteValues, byteOf, numberBytes, shortBytes, headFrame, hyperedgeFrame, byteSum, balance, digit, byteDigits, digits, lineEnd, line, vertexLine, hyperedgeLine, frameText, numberDigits, vertexOf, hyperedgeOf, headLength, vertexLength, memberLength, hyperedgeLength, writeResult};
+ghost use Rattle.frames.specs.Frames.{byteValues, byteOf, numberBytes, shortBytes, headFrame, hyperedgeFrame, byteSum, balance, digit, byteDigits, digits, lineFeed, line, vertexLine, hyperedgeLine, frameText, numberDigits, vertexOf, hyperedgeOf, headLength, vertexLength, memberLength, hyperedgeLength, writeResult};
 ghost use Rattle.frames.specs.Put.{Put};
 ghost use Rattle.frames.specs.Pairs.{Pairs};
 use layout::Answer;
@@ -147,7 +147,7 @@ fn balance(sum: usize) -> usize
 fn put_end(text: &mut [u8], at: usize, pairs: &[u8; 512], sum: usize) -> usize
     requires { ⌜ Pairs byteValues (now pairs) ⌝ }
     requires { ⌜ at + 3 ≤ length (now text) ⌝ }
-    ensures { λ r. ⌜ Put at 3 (byteDigits (balance sum) ++ lineEnd) (now (text .entry)) (now (text .exit)) r ⌝ }
+    ensures { λ r. ⌜ Put at 3 (byteDigits (balance sum) ++ lineFeed) (now (text .entry)) (now (text .exit)) r ⌝ }
 {
     let a = put_byte(text, at, pairs, balance(sum) as u8);
     put_bytes(text, a, b"\n")

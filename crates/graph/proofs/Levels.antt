@@ -17,7 +17,7 @@ use Rattle.lists.proofs.Kept.{memb-filter}
 use Rattle.lists.proofs.Memb.{memb-getD, memb-at, below-memb}
 use Rattle.walks.specs.Walks.{Reach, here, step}
 use Rattle.graph.specs.Reach.{Edge}
-use Rattle.graph.specs.Walk.{Walk, start, onward}
+use Rattle.graph.specs.Walk.{ReachIn, start, onward}
 use Rattle.graph.specs.Bfs.{spread, run, bfs}
 use Rattle.graph.specs.Held.{outside}
 use Rattle.graph.proofs.Bfs.{Served, run-more, run-end, run-end-zero, served-first, served-more, bfs-once, bfs-below, bfs-complete}
@@ -124,26 +124,26 @@ module _ (E : ℕ → ℕ → Bool) (n s : ℕ) where
     unfolding bfs
     bfs-levels = run-levels n 0 (s ∷ []) (omega arith) (served-first E n s h) levels-first
 
-    walk-reach : {k y : ℕ} → Walk (Edge E n) s k y → Reach (Edge E n) s y
+    walk-reach : {k y : ℕ} → ReachIn (Edge E n) s k y → Reach (Edge E n) s y
     walk-reach start = here
     walk-reach (onward w e) = step (walk-reach w) e
 
     at-below : (i : ℕ) → i < length (bfs E n s) → getD (bfs E n s) i 0 < n
     at-below i l = below-memb n (bfs E n s) (bfs-below E n s h) (getD (bfs E n s) i 0) (memb-getD (bfs E n s) i l)
 
-    to-first : (Walk (Edge E n) s 0 (getD (bfs E n s) 0 0))
-    to-first = subst (λ (z : ℕ). Walk (Edge E n) s 0 z) (sym (bfs-levels .first)) start
+    to-first : (ReachIn (Edge E n) s 0 (getD (bfs E n s) 0 0))
+    to-first = subst (λ (z : ℕ). ReachIn (Edge E n) s 0 z) (sym (bfs-levels .first)) start
 
     -- what stands before a number is reached by no more steps
-    pub bfs-by-steps : {m y : ℕ} → Walk (Edge E n) s m y → (i j : ℕ) → i ≤ j → j < length (bfs E n s) → getD (bfs E n s) j 0 ≡ y
-        → (k : ℕ) × (k ≤ m) × Walk (Edge E n) s k (getD (bfs E n s) i 0)
+    pub bfs-by-steps : {m y : ℕ} → ReachIn (Edge E n) s m y → (i j : ℕ) → i ≤ j → j < length (bfs E n s) → getD (bfs E n s) j 0 ≡ y
+        → (k : ℕ) × (k ≤ m) × ReachIn (Edge E n) s k (getD (bfs E n s) i 0)
     bfs-by-steps start i j b l e =
         on-same i 0
-        (λ z. (0, omega arith, subst (λ (p : ℕ). Walk (Edge E n) s 0 (getD (bfs E n s) p 0)) (sym z) to-first))
+        (λ z. (0, omega arith, subst (λ (p : ℕ). ReachIn (Edge E n) s 0 (getD (bfs E n s) p 0)) (sym z) to-first))
         (λ ne. absurd (distinct-apart (bfs E n s) (bfs-once E n s h) 0 j (omega arith) l (bfs-levels .first ∙ sym e)))
     bfs-by-steps (onward {k = m} {y = y} {z = z} w r) i j b l e =
         on-same i 0
-        (λ o. (0, omega arith, subst (λ (p : ℕ). Walk (Edge E n) s 0 (getD (bfs E n s) p 0)) (sym o) to-first))
+        (λ o. (0, omega arith, subst (λ (p : ℕ). ReachIn (Edge E n) s 0 (getD (bfs E n s) p 0)) (sym o) to-first))
         (λ ne.
         let a = memb-at y (bfs E n s) (bfs-complete E n s h y (walk-reach w)) in
         let p = bfs-levels .earlier i j (a .0) (omega arith) b l (a .1) (ap₂ E (a .2) e ∙ r .2) in

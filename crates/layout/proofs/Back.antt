@@ -19,7 +19,7 @@ use Rattle.lists.proofs.Parts.{part-at, part-tail}
 use Rattle.lists.proofs.Flat.{zero-end, flat-length, flat-at, tab-getD, length-pad, zeros-part-of}
 use Rattle.layout.specs.Content.{Vertex, Hyperedge, Table}
 use Rattle.layout.specs.Layout.{vertexLimit, hyperedgeLimit, vertexSize, recordSize, verticesAt, hyperedgesAt, size, vertexWord, hyperedgeWord, hyperedgeCount, vertexAt, countAt, membersAt, hyperedgeAt, readVertices, readHyperedges, read, vertexWords, hyperedgeWords, words}
-use Rattle.layout.specs.WellFormed.{recordShaped, unusedVertices, unusedHyperedges, wellFormed, counted, holdable, Shaped}
+use Rattle.layout.specs.WellFormed.{recordShaped, unusedVertices, unusedHyperedges, wellFormed, countFits, holdable, Shaped}
 use Rattle.layout.proofs.Shape.{shaped-of, shaped-by, count-le, count-pos}
 use Rattle.layout.proofs.Words.{words-read}
 use Rattle.layout.proofs.Holdable.{Holdable, holdable-of, members-le, members-pos}
@@ -196,13 +196,13 @@ module _ (L : ℕ) (t : Table) (h : holdable L t ≡ true) where
 
 -- what a well-formed list of words reads as can be held
 pub read-holdable : (L : ℕ) (ws : List ℕ) → wellFormed L ws ≡ true → holdable L (read L ws) ≡ true
-unfolding wellFormed holdable counted
+unfolding wellFormed holdable countFits
 read-holdable L ws e =
     let s = shaped-of L ws (and-left _ _ e) in
     let n = s .vertices-le in let m = s .hyperedges-le in
     and-both _ _ (le-leb (length (readVertices ws)) vertexLimit (rw length-tab n))
     (and-both _ _ (le-leb (length (readHyperedges L ws)) hyperedgeLimit (rw length-tab m)) (and-both _ _
-    (all-of (counted L) (readHyperedges L ws) noHyperedge (λ j l.
+    (all-of (countFits L) (readHyperedges L ws) noHyperedge (λ j l.
     let h : j < hyperedgeCount ws = rw length-tab at l in
     let len : length (membersAt L ws j) ≡ countAt L ws j =
     length-take-le (countAt L ws j) (drop (hyperedgeWord L j + 3) ws) (rw length-drop (omega (

@@ -9,12 +9,12 @@ use Rattle.lists.proofs.Cases.{and-left, and-right, and-both}
 use Rattle.lists.proofs.All.{all-at}
 use Rattle.layout.specs.Content.{Hyperedge, Table, liveVertices, liveHyperedges, numbered, membersLive, valid}
 use Rattle.layout.specs.Layout.{vertexLimit, hyperedgeLimit}
-use Rattle.layout.specs.WellFormed.{counted, holdable}
+use Rattle.layout.specs.WellFormed.{countFits, holdable}
 
 pub record Holdable (L : ℕ) (t : Table) : Type 0 where
   pub vertices-le : length (t .vertices) ≤ vertexLimit
   pub hyperedges-le : length (t .hyperedges) ≤ hyperedgeLimit
-  pub counts : all (counted L) (t .hyperedges) ≡ true
+  pub counts : all (countFits L) (t .hyperedges) ≡ true
   pub vertices-numbered : numbered (liveVertices t) (t .nextVertex) ≡ true
   pub hyperedges-numbered : numbered (liveHyperedges t) (t .nextHyperedge) ≡ true
   pub members-live : all (membersLive (liveVertices t)) (t .hyperedges) ≡ true
@@ -41,9 +41,9 @@ holdable-by p =
 -- the members of hyperedge j: some, and no more than the limit
 module _ {L : ℕ} {t : Table} (p : Holdable L t) (d : Hyperedge) (j : ℕ) (h : j < length (t .hyperedges)) where
   pub members-le : length (getD (t .hyperedges) j d .members) ≤ L
-  unfolding counted
-  members-le = leb-true _ _ (and-right _ _ (all-at (counted L) (t .hyperedges) j d (p .counts) h))
+  unfolding countFits
+  members-le = leb-true _ _ (and-right _ _ (all-at (countFits L) (t .hyperedges) j d (p .counts) h))
 
   pub members-pos : 0 < length (getD (t .hyperedges) j d .members)
-  unfolding counted
-  members-pos = ltb-true _ _ (and-left _ _ (all-at (counted L) (t .hyperedges) j d (p .counts) h))
+  unfolding countFits
+  members-pos = ltb-true _ _ (and-left _ _ (all-at (countFits L) (t .hyperedges) j d (p .counts) h))

@@ -40,14 +40,14 @@ wellFormed L ws = shaped L ws and valid (read L ws)
 -- ---- which content a table can hold
 
 -- count (1 to L)
-unfoldable pub counted : ℕ → Hyperedge → Bool
-counted L e = ltb 0 (length (e .members)) and leb (length (e .members)) L
+unfoldable pub countFits : ℕ → Hyperedge → Bool
+countFits L e = ltb 0 (length (e .members)) and leb (length (e .members)) L
 
 unfoldable pub holdable : ℕ → Table → Bool
 holdable L t =
     leb (length (t .vertices)) vertexLimit
     and leb (length (t .hyperedges)) hyperedgeLimit
-    and all (counted L) (t .hyperedges)
+    and all (countFits L) (t .hyperedges)
     and valid t
 
 -- ---- what the tests say, for those who work on the words

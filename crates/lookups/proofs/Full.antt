@@ -29,7 +29,7 @@ use Rattle.layout.proofs.Position.{position-found, position-missing}
 use Rattle.layout.proofs.Read.{live-length}
 use Rattle.lookups.specs.declared.Listing.the-variants.{Connecting}
 use Rattle.lookups.specs.Lookups.{relates, isRelated, related, places, placesIn, sum, block, listing, connecting, adjacentEntry, adjacency, fullAdjacent}
-use Rattle.lookups.specs.State.{listingMost, nothing, tallying, Tallied, wordsFor, headFor, start, heading, Beyond, Headed, fullWords, offset, putting, Filling}
+use Rattle.lookups.specs.State.{listingMost, nothing, tallying, Tallied, wordsFor, headFor, start, heading, Beyond, Headed, fullWords, offset, placing, Filling}
 use Rattle.lookups.proofs.Shared.{live-fit}
 use Rattle.lookups.proofs.Tally.{connecting-most, tallied-most}
 
@@ -116,10 +116,10 @@ module _ {live : List ℕ} {whole left : ℕ → List ℕ} {nexts out : List ℕ
     pub filling-room : (i : ℕ) → position x live ≡ At i → getD nexts i 0 < length out
     filling-room i q = let r = position-found x live i q in omega (arith, inside i (r .0) (r .1), offset-upto live whole (length live) (suc i) (r .0) (omega arith), f .fits)
 
-    pub filling-one : {nexts′ out′ : List ℕ} → nexts′ ≡ tallying (position x live) nexts → out′ ≡ putting (position x live) nexts e out → Filling live whole left′ nexts′ out′
+    pub filling-one : {nexts′ out′ : List ℕ} → nexts′ ≡ tallying (position x live) nexts → out′ ≡ placing (position x live) nexts e out → Filling live whole left′ nexts′ out′
     filling-one {nexts′} {out′} a b = go (position x live) refl a b
       where
-        go : (p : Found) → position x live ≡ p → nexts′ ≡ tallying p nexts → out′ ≡ putting p nexts e out → Filling live whole left′ nexts′ out′
+        go : (p : Found) → position x live ≡ p → nexts′ ≡ tallying p nexts → out′ ≡ placing p nexts e out → Filling live whole left′ nexts′ out′
         go Nothing q a b = rw (a, b) (record {
           sized = f .sized;
           fits = f .fits;
@@ -156,10 +156,10 @@ module _ {live : List ℕ} {whole left : ℕ → List ℕ} {nexts out : List ℕ
                   (λ n. getD-set-other out at p e 0 (apart i k p (r .0) h n l (omega (arith, other k n)) (inside i (r .0) (r .1))) ∙ f .done k p h l (omega (arith, other k n)));
             })
 
-    pub beyond-one : {out′ : List ℕ} → out′ ≡ putting (position x live) nexts e out → Beyond (offset live whole (length live)) out out′
+    pub beyond-one : {out′ : List ℕ} → out′ ≡ placing (position x live) nexts e out → Beyond (offset live whole (length live)) out out′
     beyond-one {out′} b = go (position x live) refl b
       where
-        go : (p : Found) → position x live ≡ p → out′ ≡ putting p nexts e out → Beyond (offset live whole (length live)) out out′
+        go : (p : Found) → position x live ≡ p → out′ ≡ placing p nexts e out → Beyond (offset live whole (length live)) out out′
         go Nothing q b = rw b (beyond-same _ out)
         go (At i) q b =
             let r = position-found x live i q in
@@ -171,7 +171,7 @@ module _ {live : List ℕ} {whole left : ℕ → List ℕ} {nexts out : List ℕ
 -- a turn of the loop: the words beyond the listing are kept, too
 module _ {live : List ℕ} {whole left : ℕ → List ℕ} {nexts out old : List ℕ} (f : Filling live whole left nexts out) (b : Beyond (offset live whole (length live)) old out) where
   pub fill-yes : (x e : ℕ) {left′ : ℕ → List ℕ} {nexts′ out′ : List ℕ} → Ascending live → length live ≤ vertexLimit → ((y : ℕ) → left y ≡ cond (eqb y x) (e ∷ left′ y) (left′ y))
-      → nexts′ ≡ tallying (position x live) nexts → out′ ≡ putting (position x live) nexts e out
+      → nexts′ ≡ tallying (position x live) nexts → out′ ≡ placing (position x live) nexts e out
       → Filling live whole left′ nexts′ out′ × Beyond (offset live whole (length live)) old out′
   fill-yes x e {left′} asc fit s a d = (filling-one f x e left′ asc fit s a d, beyond-then b (beyond-one f x e left′ asc fit s d))
 
@@ -181,10 +181,10 @@ module _ {live : List ℕ} {whole left : ℕ → List ℕ} {nexts out old : List
 
 -- the same for `search`: p is what `find_vertex` returned
 module _ (L : ℕ) (ws : List ℕ) (x e : ℕ) (nexts out : List ℕ) (p : Found) (q : p ≡ position x (liveVertices (read L ws))) where
-  pub put-none : p ≡ Nothing → out ≡ putting (position x (liveVertices (read L ws))) nexts e out
+  pub put-none : p ≡ Nothing → out ≡ placing (position x (liveVertices (read L ws))) nexts e out
   put-none h = rw (← q, h)
 
-  pub put-one : (k : ℕ) → p ≡ At k → set out (getD nexts k 0) e ≡ putting (position x (liveVertices (read L ws))) nexts e out
+  pub put-one : (k : ℕ) → p ≡ At k → set out (getD nexts k 0) e ≡ placing (position x (liveVertices (read L ws))) nexts e out
   put-one k h = rw (← q, h)
 
   pub put-in : ((k : ℕ) → position x (liveVertices (read L ws)) ≡ At k → getD nexts k 0 < length out) → (k : ℕ) → p ≡ At k → getD nexts k 0 < length out

@@ -24,7 +24,7 @@ use Rattle.layout.proofs.Read.{live-length, vertex-found}
 use Rattle.lookups.specs.declared.Listing.{Listing}
 use Rattle.lookups.specs.declared.Listing.the-variants.{Connecting}
 use Rattle.lookups.specs.Lookups.{facing, end, stepAt, places, placesIn, block, blockLength, listing, connecting}
-use Rattle.lookups.specs.State.{listingMost, ahead, nothing, tallying, Tallied}
+use Rattle.lookups.specs.State.{listingMost, listingAhead, nothing, tallying, Tallied}
 use Rattle.lookups.proofs.Places.{places-more, places-none, records-more, records-none}
 use Rattle.lookups.proofs.Marking.{step-yes, step-no}
 use Rattle.lookups.proofs.Laid.{block-most}
@@ -41,8 +41,8 @@ block-facing true v y e = refl
 
 -- ms and e are what `members_formed` and `hyperedge_number` gave
 pub passing-first : (L : ℕ) (ws : List ℕ) (j v : ℕ) (arriving : Bool) (ms : List ℕ) (e : ℕ) → j < hyperedgeCount ws → ms ≡ membersAt L ws j
-    → e ≡ hyperedgeAt L ws j .number → (y : ℕ) → ahead arriving (read L ws) v j y ≡ passing arriving v e ms 0 (ahead arriving (read L ws) v (j + 1)) y
-unfolding ahead passing flat placesIn
+    → e ≡ hyperedgeAt L ws j .number → (y : ℕ) → listingAhead arriving (read L ws) v j y ≡ passing arriving v e ms 0 (listingAhead arriving (read L ws) v (j + 1)) y
+unfolding listingAhead passing flat placesIn
 passing-first L ws j v arriving ms e h q s y =
     ap (flat (block (facing arriving Connecting v y))) (records-more L ws {j = j} refl h)
     ∙ ap (λ (xs : List ℕ). xs ++ flat (block (facing arriving Connecting v y)) (drop (j + 1) (readHyperedges L ws))) (block-facing arriving v y (hyperedgeAt L ws j))
@@ -74,12 +74,12 @@ module _ (arriving : Bool) (v e : ℕ) (ms : List ℕ) (i : ℕ) (rest : ℕ →
   unfolding passing
   passing-end h y = rw (places-none (facing arriving isStep v y) ms i h)
 
-pub ahead-first : (arriving : Bool) (t : Table) (v y : ℕ) → connecting arriving t v y ≡ ahead arriving t v 0 y
-unfolding ahead connecting listing
+pub ahead-first : (arriving : Bool) (t : Table) (v y : ℕ) → connecting arriving t v y ≡ listingAhead arriving t v 0 y
+unfolding listingAhead connecting listing
 ahead-first arriving t v y = refl
 
-pub ahead-end : (L : ℕ) (ws : List ℕ) (v j : ℕ) (arriving : Bool) → hyperedgeCount ws ≤ j → (y : ℕ) → ahead arriving (read L ws) v j y ≡ nothing y
-unfolding ahead flat
+pub ahead-end : (L : ℕ) (ws : List ℕ) (v j : ℕ) (arriving : Bool) → hyperedgeCount ws ≤ j → (y : ℕ) → listingAhead arriving (read L ws) v j y ≡ nothing y
+unfolding listingAhead flat
 ahead-end L ws v j arriving h y = ap (flat (block (facing arriving Connecting v y))) (records-none L ws {j = j} refl h)
 
 -- ---- how long a list can be

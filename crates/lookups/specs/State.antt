@@ -58,8 +58,8 @@ abbrev pub listingMost : ℕ
 listingMost = hyperedgeLimit * suc limit
 
 -- what the hyperedges from record j on list of the steps v to y, or y to v
-unfoldable pub ahead : Bool → Table → ℕ → ℕ → ℕ → List ℕ
-ahead arriving t v j y = flat (block (facing arriving Connecting v y)) (drop j (t .hyperedges))
+unfoldable pub listingAhead : Bool → Table → ℕ → ℕ → ℕ → List ℕ
+listingAhead arriving t v j y = flat (block (facing arriving Connecting v y)) (drop j (t .hyperedges))
 
 -- nothing is left
 abbrev pub nothing : ℕ → List ℕ
@@ -116,9 +116,9 @@ unfoldable pub offset : List ℕ → (ℕ → List ℕ) → ℕ → ℕ
 offset live whole k = length (flat (fullWords whole) (take k live))
 
 -- e written where the word at the found place says
-abbrev pub putting : Found → List ℕ → ℕ → List ℕ → List ℕ
-putting (At k) nexts e out = set out (getD nexts k 0) e
-putting Nothing nexts e out = out
+abbrev pub placing : Found → List ℕ → ℕ → List ℕ → List ℕ
+placing (At k) nexts e out = set out (getD nexts k 0) e
+placing Nothing nexts e out = out
 
 -- the words of each live vertex stand before its next word, and what is left belongs from there on
 pub record Filling (live : List ℕ) (whole left : ℕ → List ℕ) (nexts out : List ℕ) : Type 0 where

@@ -8,7 +8,7 @@ ghost use Rattle.layout.specs.WellFormed.{Formed};
 ghost use Rattle.layout.specs.Answers.{result, listed};
 ghost use Rattle.layout.specs.declared.Found.the-variants.{At};
 ghost use Rattle.lookups.specs.Lookups.{connecting, fullAdjacent};
-ghost use Rattle.lookups.specs.State.{listingMost, ahead, nothing, tallying, Tallied, wordsFor, headFor, start, heading, Beyond, Headed, offset, putting, Filling};
+ghost use Rattle.lookups.specs.State.{listingMost, listingAhead, nothing, tallying, Tallied, wordsFor, headFor, start, heading, Beyond, Headed, offset, placing, Filling};
 ghost use Rattle.lookups.specs.Results.{fullAdjacentResult};
 use layout::Answer;
 use layout::Found;
@@ -30,8 +30,8 @@ fn tally(t: &[u32], x: u32, counts: &mut [usize; 256])
 // Counts the places of record j that have v at the named end, by the vertex at the other.
 fn tally_record(t: &[u32], j: usize, v: u32, arriving: bool, counts: &mut [usize; 256])
     requires { ⌜ Formed limit (now t) ⌝ }
-    requires { ⌜ (j < hyperedgeCount (now t)) × Tallied (liveVertices (read limit (now t))) (connecting arriving (read limit (now t)) v) (ahead arriving (read limit (now t)) v j) (now counts) ⌝ }
-    ensures { λ _. ⌜ Tallied (liveVertices (read limit (now (t .entry)))) (connecting arriving (read limit (now (t .entry))) v) (ahead arriving (read limit (now (t .entry))) v (j + 1)) (now (counts .exit)) ⌝ }
+    requires { ⌜ (j < hyperedgeCount (now t)) × Tallied (liveVertices (read limit (now t))) (connecting arriving (read limit (now t)) v) (listingAhead arriving (read limit (now t)) v j) (now counts) ⌝ }
+    ensures { λ _. ⌜ Tallied (liveVertices (read limit (now (t .entry)))) (connecting arriving (read limit (now (t .entry))) v) (listingAhead arriving (read limit (now (t .entry))) v (j + 1)) (now (counts .exit)) ⌝ }
 {
     let ms = layout::members_formed(t, j);
     let mut i = 0;
@@ -120,7 +120,7 @@ fn put(t: &[u32], x: u32, e: u32, nexts: &mut [usize; 256], out: &mut [u32])
     requires { ⌜ Formed limit (now t) ⌝ }
     requires { ⌜ ((k : ℕ) → position x (liveVertices (read limit (now t))) ≡ At k → getD (now nexts) k 0 < length (now out)) ⌝ }
     ensures { λ _. ⌜ now (nexts .exit) ≡ tallying (position x (liveVertices (read limit (now (t .entry))))) (now (nexts .entry)) ⌝ }
-    ensures { λ _. ⌜ now (out .exit) ≡ putting (position x (liveVertices (read limit (now (t .entry))))) (now (nexts .entry)) e (now (out .entry)) ⌝ }
+    ensures { λ _. ⌜ now (out .exit) ≡ placing (position x (liveVertices (read limit (now (t .entry))))) (now (nexts .entry)) e (now (out .entry)) ⌝ }
 {
     let f = layout::find_vertex(t, VertexIndex(x));
     match f {
@@ -143,8 +143,8 @@ fn fill_record(
     out: &mut [u32],
 )
     requires { ⌜ Formed limit (now t) ⌝ }
-    requires { ⌜ (j < hyperedgeCount (now t)) × Filling (liveVertices (read limit (now t))) (connecting arriving (read limit (now t)) v) (ahead arriving (read limit (now t)) v j) (now nexts) (now out) ⌝ }
-    ensures { λ _. ⌜ Filling (liveVertices (read limit (now (t .entry)))) (connecting arriving (read limit (now (t .entry))) v) (ahead arriving (read limit (now (t .entry))) v (j + 1)) (now (nexts .exit)) (now (out .exit)) ⌝ }
+    requires { ⌜ (j < hyperedgeCount (now t)) × Filling (liveVertices (read limit (now t))) (connecting arriving (read limit (now t)) v) (listingAhead arriving (read limit (now t)) v j) (now nexts) (now out) ⌝ }
+    ensures { λ _. ⌜ Filling (liveVertices (read limit (now (t .entry)))) (connecting arriving (read limit (now (t .entry))) v) (listingAhead arriving (read limit (now (t .entry))) v (j + 1)) (now (nexts .exit)) (now (out .exit)) ⌝ }
     ensures { λ _. ⌜ Beyond (offset (liveVertices (read limit (now (t .entry)))) (connecting arriving (read limit (now (t .entry))) v) (length (liveVertices (read limit (now (t .entry)))))) (now (out .entry)) (now (out .exit)) ⌝ }
 {
     let ms = layout::members_formed(t, j);

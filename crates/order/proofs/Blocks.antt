@@ -1,4 +1,4 @@
--- The first free number, sought from the front: what is left of the search has the answer of the whole. Assumes nothing.
+-- The first isFree number, sought from the front: what is left of the search has the answer of the whole. Assumes nothing.
 use mathlib.Core.Path.{_≡_, refl, sym, ap, _∙_}
 use mathlib.Core.Bool.{Bool, true, false, not}
 use mathlib.Core.List.{List}
@@ -13,7 +13,7 @@ use Rattle.lists.specs.Tests.{_and_, every}
 use Rattle.lists.proofs.Cases.{and-false-right, and-true}
 use Rattle.lists.proofs.Every.{every-at}
 use Rattle.order.specs.Least.{least}
-use Rattle.order.specs.State.{free, busy}
+use Rattle.order.specs.State.{isFree, busy}
 use Rattle.order.proofs.Least.{least-here, least-on}
 
 -- numbers that don't pass are passed over
@@ -29,35 +29,35 @@ least-skip f (suc c) m j h =
 
 -- ---- k numbers are left of the n, and `need` is d
 
-pub left-first : (d : List ℕ) (n : ℕ) → least (free d) n (n - n) ≡ least (free d) n 0
-left-first d n = let z : n - n ≡ 0 = omega arith in ap (least (free d) n) z
+pub left-first : (d : List ℕ) (n : ℕ) → least (isFree d) n (n - n) ≡ least (isFree d) n 0
+left-first d n = let z : n - n ≡ 0 = omega arith in ap (least (isFree d) n) z
 
-module _ (d : List ℕ) (n k whole : ℕ) (le : k ≤ n) (h : least (free d) k (n - k) ≡ whole) where
-  -- a block in which none is free: r is what `none_free` found of it
-  pub left-pass : (c : ℕ) (r : Bool) → c ≤ k → r ≡ every (busy d (n - k)) c → not r ≡ false → least (free d) (k - c) (n - (k - c)) ≡ whole
+module _ (d : List ℕ) (n k whole : ℕ) (le : k ≤ n) (h : least (isFree d) k (n - k) ≡ whole) where
+  -- a block in which none is isFree: r is what `none_free` found of it
+  pub left-pass : (c : ℕ) (r : Bool) → c ≤ k → r ≡ every (busy d (n - k)) c → not r ≡ false → least (isFree d) (k - c) (n - (k - c)) ≡ whole
   left-pass c r l e q =
-      let none : (i : ℕ) → i < c → free d (n - k + i) ≡ false = λ i li. not-true (free d (n - k + i)) (every-at (busy d (n - k)) c i (sym e ∙ not-false r q) li) in
+      let none : (i : ℕ) → i < c → isFree d (n - k + i) ≡ false = λ i li. not-true (isFree d (n - k + i)) (every-at (busy d (n - k)) c i (sym e ∙ not-false r q) li) in
       let s : c + (k - c) ≡ k = omega arith in
       let j : n - k + c ≡ n - (k - c) = omega arith in
-      ap (least (free d) (k - c)) (sym j) ∙ sym (least-skip (free d) c (k - c) (n - k) none) ∙ ap (λ (i : ℕ). least (free d) i (n - k)) s ∙ h
+      ap (least (isFree d) (k - c)) (sym j) ∙ sym (least-skip (isFree d) c (k - c) (n - k) none) ∙ ap (λ (i : ℕ). least (isFree d) i (n - k)) s ∙ h
 
   pub left-found : 0 < k → getD d (n - k) 0 ≡ 0 → n - k ≡ whole
   left-found l e =
       let s : k ≡ suc (k - 1) = omega arith in
-      sym (least-here (free d) (k - 1) (n - k) (eq-eqb (getD d (n - k) 0) 0 e)) ∙ ap (λ (i : ℕ). least (free d) i (n - k)) (sym s) ∙ h
+      sym (least-here (isFree d) (k - 1) (n - k) (eq-eqb (getD d (n - k) 0) 0 e)) ∙ ap (λ (i : ℕ). least (isFree d) i (n - k)) (sym s) ∙ h
 
-  pub left-on : 0 < k → (getD d (n - k) 0 ≡ 0 → ⊥) → least (free d) (k - 1) (n - (k - 1)) ≡ whole
+  pub left-on : 0 < k → (getD d (n - k) 0 ≡ 0 → ⊥) → least (isFree d) (k - 1) (n - (k - 1)) ≡ whole
   left-on l e =
       let s : k ≡ suc (k - 1) = omega arith in
       let j : n - (k - 1) ≡ suc (n - k) = omega arith in
-      ap (least (free d) (k - 1)) j ∙ sym (least-on (free d) (k - 1) (n - k) (ne-eqb (getD d (n - k) 0) 0 e)) ∙ ap (λ (i : ℕ). least (free d) i (n - k)) (sym s) ∙ h
+      ap (least (isFree d) (k - 1)) j ∙ sym (least-on (isFree d) (k - 1) (n - k) (ne-eqb (getD d (n - k) 0) 0 e)) ∙ ap (λ (i : ℕ). least (isFree d) i (n - k)) (sym s) ∙ h
 
   pub left-none : k ≤ 0 → n ≡ whole
   unfolding least
   left-none l =
       let z : k ≡ 0 = omega arith in
       let j : n - k ≡ n = omega arith in
-      sym j ∙ ap (λ (i : ℕ). least (free d) i (n - k)) (sym z) ∙ h
+      sym j ∙ ap (λ (i : ℕ). least (isFree d) i (n - k)) (sym z) ∙ h
 
 -- ---- a block, number by number: x is the number's count
 

@@ -21,29 +21,29 @@ use Rattle.order.specs.Least.{least}
 use Rattle.order.specs.Sort.{Forward, LexLe, Smallest}
 use Rattle.walks.proofs.Walks.{reach-trans}
 use Rattle.walks.specs.Walks.{Reach, here, step, Closed}
-use Rattle.order.specs.Greedy.{waits, avail, next, rest, greedy}
+use Rattle.order.specs.Greedy.{waits, available, next, rest, greedy}
 
 module _ (E : ℕ → ℕ → Bool) (n : ℕ) where
-  pub avail-new : (p : List ℕ) (v : ℕ) → avail E n p v ≡ true → memb v p ≡ false
-  unfolding avail
+  pub avail-new : (p : List ℕ) (v : ℕ) → available E n p v ≡ true → memb v p ≡ false
+  unfolding available
   avail-new p v e = not-true (memb v p) (and-true-left (not (memb v p)) (eqb (count (waits E p v) n) 0) e)
 
-  avail-pred : (p : List ℕ) (v : ℕ) → avail E n p v ≡ true → (u : ℕ) → u < n → E u v ≡ true → memb u p ≡ true
-  unfolding avail
+  avail-pred : (p : List ℕ) (v : ℕ) → available E n p v ≡ true → (u : ℕ) → u < n → E u v ≡ true → memb u p ≡ true
+  unfolding available
   avail-pred p v e u l h =
       on (memb u p) (λ t. t)
       (λ t. clash (rw (h, t))
       (count-zero (waits E p v) n (eqb-true (count (waits E p v) n) 0 (and-true-right (not (memb v p)) (eqb (count (waits E p v) n) 0) e)) u l))
 
-  avail-is : (p : List ℕ) (v : ℕ) → memb v p ≡ false → ((u : ℕ) → u < n → E u v ≡ true → memb u p ≡ true) → avail E n p v ≡ true
-  unfolding avail
+  avail-is : (p : List ℕ) (v : ℕ) → memb v p ≡ false → ((u : ℕ) → u < n → E u v ≡ true → memb u p ≡ true) → available E n p v ≡ true
+  unfolding available
   avail-is p v m h =
       rw m (eq-eqb (count (waits E p v) n) 0 (count-none (waits E p v) n
       (λ i l. on (E i v) (λ e. rw (e, h i l e)) (λ e. rw e))))
 
   -- a number that is not placed and not to be placed next has a step from one that is not placed
-  waiting : (p : List ℕ) (v : ℕ) → memb v p ≡ false → avail E n p v ≡ false → (u : ℕ) × (u < n) × (memb u p ≡ false) × (E u v ≡ true)
-  unfolding avail
+  waiting : (p : List ℕ) (v : ℕ) → memb v p ≡ false → available E n p v ≡ false → (u : ℕ) × (u < n) × (memb u p ≡ false) × (E u v ≡ true)
+  unfolding available
   waiting p v m e =
       let z : count (waits E p v) n ≡ 0 → ⊥ = eqb-false (count (waits E p v) n) 0 (rw m at e) in
       let r = count-some (waits E p v) n z in
@@ -64,7 +64,7 @@ module _ (E : ℕ → ℕ → Bool) (n : ℕ) where
     forward = λ i j l. absurd (not-suc-le-zero l);
   }
 
-  placed-more : (p : List ℕ) (v : ℕ) → Placed p → v < n → avail E n p v ≡ true → Placed (p ++ (v ∷ []))
+  placed-more : (p : List ℕ) (v : ℕ) → Placed p → v < n → available E n p v ≡ true → Placed (p ++ (v ∷ []))
   placed-more p v h l e =
       let q : List ℕ = p ++ (v ∷ []) in
       let old : (i : ℕ) → i < length p → getD q i 0 ≡ getD p i 0 = λ i a. List·getD-append p (v ∷ []) 0 i a in
@@ -93,13 +93,13 @@ module _ (E : ℕ → ℕ → Bool) (n : ℕ) where
             h .forward i j bi bj (subst (λ (z : ℕ). E z (getD p j 0) ≡ true) (old i bi) (subst (λ (z : ℕ). E (getD q i 0) z ≡ true) (old j bj) r))));
       }
 
-  pub next-avail : (p : List ℕ) → next E n p < n → avail E n p (next E n p) ≡ true
+  pub next-avail : (p : List ℕ) → next E n p < n → available E n p (next E n p) ≡ true
   unfolding next
-  next-avail p l = least-hit (avail E n p) n 0 (omega arith)
+  next-avail p l = least-hit (available E n p) n 0 (omega arith)
 
-  next-le : (p : List ℕ) (v : ℕ) → v < n → avail E n p v ≡ true → next E n p ≤ v
+  next-le : (p : List ℕ) (v : ℕ) → v < n → available E n p v ≡ true → next E n p ≤ v
   unfolding next
-  next-le p v l e = least-le (avail E n p) n 0 v (omega arith) (omega arith) e
+  next-le p v l e = least-le (available E n p) n 0 v (omega arith) (omega arith) e
 
   pub rest-more : (f : ℕ) (p : List ℕ) → next E n p < n → rest E n (suc f) p ≡ next E n p ∷ rest E n f (p ++ (next E n p ∷ []))
   unfolding rest
@@ -147,7 +147,7 @@ module _ (E : ℕ → ℕ → Bool) (n : ℕ) where
       → ((y : ℕ) → memb y (x ∷ w) ≡ true → Reach (Edge E n) x y) → n < f + length (x ∷ w) → Closed (Edge E n)
   chase p stuck zero x w m d b r l = absurd (lt-irrefl n (omega (arith, pigeon (x ∷ w) n d b)))
   chase p stuck (suc f) x w m d b r l =
-      let none : avail E n p x ≡ false = on (avail E n p x) (λ e. absurd (lt-irrefl n (omega (arith, next-le p x (b .0) e, b .0)))) (λ e. e) in
+      let none : available E n p x ≡ false = on (available E n p x) (λ e. absurd (lt-irrefl n (omega (arith, next-le p x (b .0) e, b .0)))) (λ e. e) in
       let u = waiting p x m none in
       let back : Edge E n (u .0) x = (u .1, b .0, u .3) in
       on (memb (u .0) (x ∷ w))
@@ -201,7 +201,7 @@ module _ (E : ℕ → ℕ → Bool) (n : ℕ) where
       let seam : getD q (length p) 0 ≡ y = getD-append-seam p y k 0 in
       let len : length q ≡ length p + suc (length k) = length-append p (y ∷ k) in
       let small : y < n = ltb-true y n (sym (t .same y) ∙ memb-append y p (y ∷ k) ∙ or-right (memb y p) (memb y (y ∷ k)) (memb-self y k)) in
-      let ok : avail E n p y ≡ true = avail-is p y (mid-new p y k (t .once))
+      let ok : available E n p y ≡ true = avail-is p y (mid-new p y k (t .once))
       (λ u a e.
       let at = memb-at u q (t .same u ∙ lt-ltb u n a) in
       let i : at .0 < length p = t .forward (at .0) (length p) (at .1) (omega arith) (rw (at .2, seam) (a, small, e)) in

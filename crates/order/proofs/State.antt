@@ -22,11 +22,11 @@ use Rattle.lists.specs.Tests.{count, bit}
 use Rattle.order.proofs.Greedy.{avail-new, next-avail, rest-more, rest-end, greedy-short, greedy-sorts, greedy-fails}
 use Rattle.order.proofs.Least.{least-ext, least-hit}
 use Rattle.order.proofs.Smallest.{forward-open}
-use Rattle.order.specs.Greedy.{waits, avail, next, rest, greedy}
+use Rattle.order.specs.Greedy.{waits, available, next, rest, greedy}
 use Rattle.order.specs.Least.{least}
 use Rattle.order.specs.Sort.{Smallest}
 use Rattle.order.specs.Post.{blank, Sorted}
-use Rattle.order.specs.State.{Degrees, Row, Owed, free, placedMark, Needs, Sorting}
+use Rattle.order.specs.State.{Degrees, Row, Owed, isFree, placedMark, Needs, Sorting}
 
 -- ---- the counts, row by row
 
@@ -51,7 +51,7 @@ needs-none {E} {n} {d} h = record {
   is = λ v l. omega (arith, h .is v l, count-ext (λ u. E u v) (waits E [] v) n (λ u _. sym (and-true (E u v))));
 }
 
--- a number is free where its count is 0 and it is not placed
+-- a number is isFree where its count is 0 and it is not placed
 free-test : (x c : ℕ) (b : Bool) → x ≡ c + bit b * placedMark → eqb x 0 ≡ (not b && eqb c 0)
 free-test x c true e = ne-eqb x 0 (λ z. let y : _≡_ {A = ℕ} 0 1 = omega arith in no y)
   where
@@ -60,9 +60,9 @@ free-test x c true e = ne-eqb x 0 (λ z. let y : _≡_ {A = ℕ} 0 1 = omega ari
 free-test x c false e = ap (λ (y : ℕ). eqb y 0) (let q : x ≡ c = omega arith in q)
 
 module _ {E : ℕ → ℕ → Bool} {n : ℕ} {d p : List ℕ} (g : Needs E n d p) where
-  first-is : least (free d) n 0 ≡ next E n p
-  unfolding next avail
-  first-is = least-ext (free d) (avail E n p) n 0
+  first-is : least (isFree d) n 0 ≡ next E n p
+  unfolding next available
+  first-is = least-ext (isFree d) (available E n p) n 0
       (λ i _ l. let li : i < n = omega arith in free-test (getD d i 0) (count (waits E p i) n) (memb i p) (g .is i li))
 
   module _ {v : ℕ} (lv : v < n) (b : n ≤ 256) (new : memb v p ≡ false) (none : getD d v 0 ≡ 0) where
@@ -110,7 +110,7 @@ blank-length : length blank ≡ 256
 unfolding blank
 blank-length = length-replicate {A = ℕ} 256 0
 
-pub sorting-first : {E : ℕ → ℕ → Bool} {n : ℕ} {d : List ℕ} {v : ℕ} → n ≤ 256 → Degrees E n n d → v ≡ least (free d) n 0 → Sorting E n d (replicate 256 0) 0 v
+pub sorting-first : {E : ℕ → ℕ → Bool} {n : ℕ} {d : List ℕ} {v : ℕ} → n ≤ 256 → Degrees E n n d → v ≡ least (isFree d) n 0 → Sorting E n d (replicate 256 0) 0 v
 unfolding greedy blank
 sorting-first {E} {n} {d} {v} b h e =
     let g : Needs E n d [] = needs-none h in
@@ -136,7 +136,7 @@ module _ {E : ℕ → ℕ → Bool} {n : ℕ} {d o : List ℕ} {t v : ℕ} (h : 
     new = subst (λ (x : ℕ). memb x (take t o) ≡ false) (sym (h .turn)) (avail-new E n (take t o) (next E n (take t o)) (next-avail E n (take t o) nexts))
 
     none : getD d v 0 ≡ 0
-    none = eqb-true (getD d v 0) 0 (subst (λ (x : ℕ). free d x ≡ true) (first-is (h .needs) ∙ sym (h .turn)) (least-hit (free d) n 0 (omega (arith, first-is (h .needs), nexts))))
+    none = eqb-true (getD d v 0) 0 (subst (λ (x : ℕ). isFree d x ≡ true) (first-is (h .needs) ∙ sym (h .turn)) (least-hit (isFree d) n 0 (omega (arith, first-is (h .needs), nexts))))
 
     sorting-room : t < n
     sorting-room = omega (arith, h .count, room (take t o) n v (h .once) (h .below) l new)
@@ -157,7 +157,7 @@ module _ {E : ℕ → ℕ → Bool} {n : ℕ} {d o : List ℕ} {t v : ℕ} (h : 
     pub sorting-owed : n ≤ 256 → Owed E n v (set d v placedMark)
     sorting-owed b = owed (h .needs) l b new none
 
-    pub sorting-more : {d′ : List ℕ} {v′ : ℕ} → n ≤ 256 → Row E n v d′ (set d v placedMark) → v′ ≡ least (free d′) n 0
+    pub sorting-more : {d′ : List ℕ} {v′ : ℕ} → n ≤ 256 → Row E n v d′ (set d v placedMark) → v′ ≡ least (isFree d′) n 0
         → Sorting E n d′ (set o t v) (t + 1) v′
     sorting-more {d′} {v′} b s e =
         let p : List ℕ = take t o in

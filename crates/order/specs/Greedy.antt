@@ -13,12 +13,12 @@ abbrev pub waits : (ℕ → ℕ → Bool) → List ℕ → ℕ → ℕ → Bool
 waits E p v u = E u v && not (memb u p)
 
 -- v is not placed, and waits for none
-unfoldable pub avail : (ℕ → ℕ → Bool) → ℕ → List ℕ → ℕ → Bool
-avail E n p v = not (memb v p) && eqb (count (waits E p v) n) 0
+unfoldable pub available : (ℕ → ℕ → Bool) → ℕ → List ℕ → ℕ → Bool
+available E n p v = not (memb v p) && eqb (count (waits E p v) n) 0
 
 -- the smallest such number, or n where there is none
 unfoldable pub next : (ℕ → ℕ → Bool) → ℕ → List ℕ → ℕ
-next E n p = least (avail E n p) n 0
+next E n p = least (available E n p) n 0
 
 -- what follows the placed numbers p, in f turns at most
 unfoldable pub rest : (ℕ → ℕ → Bool) → ℕ → ℕ → List ℕ → List ℕ

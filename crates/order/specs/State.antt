@@ -34,12 +34,12 @@ pub record Owed (E : ℕ → ℕ → Bool) (n v : ℕ) (d : List ℕ) : Type 0 w
   pub is : (w : ℕ) → w < n → E v w ≡ true → 0 < getD d w 0
 
 -- the number waits for none and is not placed
-abbrev pub free : List ℕ → ℕ → Bool
-free d j = eqb (getD d j 0) 0
+abbrev pub isFree : List ℕ → ℕ → Bool
+isFree d j = eqb (getD d j 0) 0
 
--- the number i places on from j is not free
+-- the number i places on from j is not isFree
 abbrev pub busy : List ℕ → ℕ → ℕ → Bool
-busy d j i = not (free d (j + i))
+busy d j i = not (isFree d (j + i))
 
 -- what stands in place of a placed number's count
 abbrev pub placedMark : ℕ

@@ -7,7 +7,7 @@ ghost use Rattle.lists.specs.Tests.{_and_, bit, every};
 ghost use Rattle.graph.specs.Reach.{matrix};
 ghost use Rattle.order.specs.Least.{least};
 ghost use Rattle.order.specs.Post.{Sorted};
-ghost use Rattle.order.specs.State.{Degrees, Row, Owed, free, busy};
+ghost use Rattle.order.specs.State.{Degrees, Row, Owed, isFree, busy};
 
 // What stands in place of a number's count once the number is placed: no count reaches it.
 const PLACED: u16 = 512;
@@ -74,7 +74,7 @@ fn still(none: bool, d: u16) -> bool
     none
 }
 
-// Whether none of the numbers of the block from j on is free. None is skipped, so that the compiler can take several at a time.
+// Whether none of the numbers of the block from j on is isFree. None is skipped, so that the compiler can take several at a time.
 fn none_free(need: &[u16; 256], j: usize) -> bool
     requires { ⌜ j + 32 ≤ 256 ⌝ }
     ensures { λ r. ⌜ r ≡ every (busy (now (need .entry)) j) 32 ⌝ }
@@ -88,10 +88,10 @@ fn none_free(need: &[u16; 256], j: usize) -> bool
     none
 }
 
-// How many numbers are left from the first block on in which one is free.
+// How many numbers are left from the first block on in which one is isFree.
 fn left(n: usize, need: &[u16; 256]) -> usize
     requires { ⌜ n ≤ 256 ⌝ }
-    ensures { λ r. ⌜ (r ≤ n) × (least (free (now (need .entry))) r (n - r) ≡ least (free (now (need .entry))) n 0) ⌝ }
+    ensures { λ r. ⌜ (r ≤ n) × (least (isFree (now (need .entry))) r (n - r) ≡ least (isFree (now (need .entry))) n 0) ⌝ }
 {
     let mut k = n;
     while BLOCK <= k {
@@ -106,7 +106,7 @@ fn left(n: usize, need: &[u16; 256]) -> usize
 // The first number that is not placed and waits for none, or n.
 fn first(n: usize, need: &[u16; 256]) -> usize
     requires { ⌜ n ≤ 256 ⌝ }
-    ensures { λ r. ⌜ r ≡ least (free (now (need .entry))) n 0 ⌝ }
+    ensures { λ r. ⌜ r ≡ least (isFree (now (need .entry))) n 0 ⌝ }
 {
     let mut k = left(n, need);
     while 0 < k {

@@ -17,7 +17,7 @@ use Rattle.distance.specs.Descent.{Pair}
 use Rattle.steps.specs.Matrices.{numberOf}
 use Rattle.paths.specs.Paths.{costsFrom, pairResult, fromResult}
 use Rattle.paths.specs.Choices.{Weights, Chosen}
-use Rattle.paths.specs.Written.{pairBetween, noPath, headWords, stepWords}
+use Rattle.paths.specs.Written.{pairBetween, noPath, pathHead, stepWords}
 use Rattle.paths.proofs.Numbers.{pair-none, pair-some}
 
 -- what `list_none` and `list_walk` answer
@@ -28,7 +28,7 @@ module _ {ws : List ℕ} (f : Formed limit ws) (w : List ℕ) (hw : Weights (rea
   none-answer e q = q ∙ ap (λ (xs : List ℕ). listed xs out) (sym (pair-none f w hw c hc i j hi hj n en found cost steps o p e))
 
   pub walk-answer : not found ≡ false
-      → r ≡ listed (headWords cost (steps + 1) (numberOf (read limit ws) i) ++ stepWords (read limit ws) i (take steps o)) out → r ≡ listed (pairBetween (read limit ws) i j) out
+      → r ≡ listed (pathHead cost (steps + 1) (numberOf (read limit ws) i) ++ stepWords (read limit ws) i (take steps o)) out → r ≡ listed (pairBetween (read limit ws) i j) out
   walk-answer e q = q ∙ ap (λ (xs : List ℕ). listed xs out) (sym (pair-some f w hw c hc i j hi hj n en found cost steps o p e))
 
 -- a record that was found: p is what `find_vertex` found of x

@@ -29,9 +29,9 @@ use Rattle.distance.proofs.Ways.{cost-walk, cost-under}
 use Rattle.steps.specs.Matrices.{numberOf}
 use Rattle.steps.proofs.Among.{steps-among}
 use Rattle.steps.proofs.Records.{numbers-rise, record-once, record-of}
-use Rattle.paths.specs.Paths.{weightBy, choice, stepCost, bestPath, pairWords, costWords, costTo}
+use Rattle.paths.specs.Paths.{weightBy, choice, stepCost, bestPath, pathWords, costWords, costTo}
 use Rattle.paths.specs.Choices.{Weights, weightIn, Chosen}
-use Rattle.paths.specs.Written.{Laid, pairBetween, noPath, headWords, stepWords, keyWords}
+use Rattle.paths.specs.Written.{Laid, pairBetween, noPath, pathHead, stepWords, keyWords}
 use Rattle.paths.proofs.Values.{value-at, weights-are}
 use Rattle.paths.proofs.Lightest.{choice-step}
 
@@ -175,9 +175,9 @@ module _ {ws : List ℕ} (f : Formed limit ws) (w : List ℕ) (hw : Weights (rea
       same = subst (λ (z : ℕ). Pair (stepBack c) (costBack c w) z i j found cost steps o) en p
 
       pub pair-none : not found ≡ true → pairBetween (read limit ws) i j ≡ noPath
-      unfolding pairWords
+      unfolding pathWords
       pair-none e =
-          ap (pairWords (read limit ws) (numberOf (read limit ws) i))
+          ap (pathWords (read limit ws) (numberOf (read limit ws) i))
           (path-none f (stepBack c) (costBack c w) back-steps back-costs i j hi hj (same .no (not-true found e)))
 
       pub pair-laid : not found ≡ false → Laid (vertexCount ws) steps o
@@ -188,16 +188,16 @@ module _ {ws : List ℕ} (f : Formed limit ws) (w : List ℕ) (hw : Weights (rea
       }
 
       pub pair-some : not found ≡ false
-          → pairBetween (read limit ws) i j ≡ headWords cost (steps + 1) (numberOf (read limit ws) i) ++ stepWords (read limit ws) i (take steps o)
-      unfolding pairWords
+          → pairBetween (read limit ws) i j ≡ pathHead cost (steps + 1) (numberOf (read limit ws) i) ++ stepWords (read limit ws) i (take steps o)
+      unfolding pathWords
       pair-some e =
           let y = same .yes (not-false found e) in
           let l : List ℕ = map (numberOf (read limit ws)) (take steps o) in
           let ec : cost ≡ total (stepCost (read limit ws)) (numberOf (read limit ws) i) l =
           y .1 ∙ total-numbers f (stepBack c) (costBack c w) back-steps back-costs i (take steps o) j (y .0 .walk) in
           let es : steps + 1 ≡ suc (length l) = omega (arith, y .2, map-length (numberOf (read limit ws)) (take steps o)) in
-          ap (pairWords (read limit ws) (numberOf (read limit ws) i)) (path-some f (stepBack c) (costBack c w) back-steps back-costs i j hi hj (take steps o) (y .0))
-          ∙ sym (ap₂ (λ (a b : ℕ). headWords a b (numberOf (read limit ws) i) ++ stepWords (read limit ws) i (take steps o)) ec es)
+          ap (pathWords (read limit ws) (numberOf (read limit ws) i)) (path-some f (stepBack c) (costBack c w) back-steps back-costs i j hi hj (take steps o) (y .0))
+          ∙ sym (ap₂ (λ (a b : ℕ). pathHead a b (numberOf (read limit ws) i) ++ stepWords (read limit ws) i (take steps o)) ec es)
 
   -- as the steps lead: the costs from record i
   module _ (h : Chosen false ws c) where

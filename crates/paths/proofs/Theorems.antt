@@ -16,7 +16,7 @@ use Rattle.layout.proofs.Read.{live-length}
 use Rattle.distance.specs.Best.{Walk, total, Best}
 use Rattle.distance.proofs.Best.{best-sound, best-computed, best-short, none-sound, none-computed}
 use Rattle.steps.proofs.Among.{steps-among}
-use Rattle.paths.specs.Paths.{stepHyperedge, stepCost, bestPath, entriesAfter, pairWords}
+use Rattle.paths.specs.Paths.{stepHyperedge, stepCost, bestPath, entriesAfter, pathWords}
 
 module _ {ws : List ℕ} (f : Formed limit ws) (x y : ℕ) (live : isLive (liveVertices (read limit ws)) x ≡ true) where
   into : (u v : ℕ) → hasStep (read limit ws) u v ≡ true → memb v (liveVertices (read limit ws)) ≡ true
@@ -55,14 +55,14 @@ module _ (t : Table) (x : ℕ) where
   entries-count u (v ∷ l) = omega (arith, entries-count v l)
 
   -- the third word is the count of the entries, of two words each
-  pub count-of-entries : (p : Option (List ℕ)) → length (pairWords t x p) ≡ 3 + getD (pairWords t x p) 2 0 * 2
-  unfolding pairWords
+  pub count-of-entries : (p : Option (List ℕ)) → length (pathWords t x p) ≡ 3 + getD (pathWords t x p) 2 0 * 2
+  unfolding pathWords
   count-of-entries none = refl
   count-of-entries (some l) = omega (arith, entries-count x l)
 
   -- the first two words are the total of the least weights along the entries
-  pub cost-of-entries : (l : List ℕ) → getD (pairWords t x (some l)) 0 0 + getD (pairWords t x (some l)) 1 0 * 4294967296 ≡ total (stepCost t) x l
-  unfolding pairWords
+  pub cost-of-entries : (l : List ℕ) → getD (pathWords t x (some l)) 0 0 + getD (pathWords t x (some l)) 1 0 * 4294967296 ≡ total (stepCost t) x l
+  unfolding pathWords
   cost-of-entries l = omega arith
 
   -- the entry of each step: its vertex, and the hyperedge of the step from the vertex before

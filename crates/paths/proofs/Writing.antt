@@ -29,7 +29,7 @@ use Rattle.layout.proofs.Read.{live-length, live-at}
 use Rattle.steps.specs.Matrices.{numberOf, cell}
 use Rattle.paths.specs.Paths.{noHyperedge, hyperedgeBy, stepHyperedge, low, high, noNumber, entriesAfter, costTo, costsFrom}
 use Rattle.paths.specs.Choices.{Chosen}
-use Rattle.paths.specs.Written.{Laid, noPath, laidAt, headWords, stepWords, reached, keyWords, keysBelow, Put}
+use Rattle.paths.specs.Written.{Laid, noPath, laidAt, pathHead, stepWords, isReached, keyWords, keysBelow, Put}
 use Rattle.paths.proofs.Values.{value-at}
 
 -- ---- words at a place
@@ -92,7 +92,7 @@ module _ (out : List ℕ) where
   none-fits l = listed-fits noPath out 3 refl (set (set (set out 0 0) 1 0) 2 0) l (none-words out l)
 
 pub head-words : (cost count x : ℕ) (out : List ℕ) → 5 ≤ length out
-    → set (set (set (set (set out 0 (low cost)) 1 (high cost)) 2 count) 3 x) 4 noNumber ≡ over (headWords cost count x) out
+    → set (set (set (set (set out 0 (low cost)) 1 (high cost)) 2 count) 3 x) 4 noNumber ≡ over (pathHead cost count x) out
 unfolding over
 head-words cost count x [] l = absurd (lt-irrefl 0 (omega arith))
 head-words cost count x (a ∷ []) l = absurd (lt-irrefl 0 (omega arith))
@@ -102,8 +102,8 @@ head-words cost count x (a ∷ b ∷ c ∷ d ∷ []) l = absurd (lt-irrefl 0 (om
 head-words cost count x (a ∷ b ∷ c ∷ d ∷ e ∷ out) l = refl
 
 -- the head keeps the slice's length
-pub head-room : (cost count x : ℕ) (out mid : List ℕ) (k : ℕ) → mid ≡ over (headWords cost count x) out → 5 + k ≤ length out → 5 + k ≤ length mid
-head-room cost count x out mid k e l = omega (arith, ap length e, over-length (headWords cost count x) out (omega arith))
+pub head-room : (cost count x : ℕ) (out mid : List ℕ) (k : ℕ) → mid ≡ over (pathHead cost count x) out → 5 + k ≤ length out → 5 + k ≤ length mid
+head-room cost count x out mid k e l = omega (arith, ap length e, over-length (pathHead cost count x) out (omega arith))
 
 -- the number at a place: k is the place, n what `hyperedge_count` found
 module _ (ws : List ℕ) (h : ℕ) where
@@ -196,7 +196,7 @@ entries-length t x (v ∷ l) = omega (arith, entries-length t v l)
 -- the whole: x is what `vertex_number` found of record i
 module _ (ws : List ℕ) (i : ℕ) (cost steps : ℕ) (o : List ℕ) (h : Laid (vertexCount ws) steps o) (f : Formed limit ws) where
   abbrev walkWords : List ℕ
-  walkWords = headWords cost (steps + 1) (numberOf (read limit ws) i) ++ stepWords (read limit ws) i (take steps o)
+  walkWords = pathHead cost (steps + 1) (numberOf (read limit ws) i) ++ stepWords (read limit ws) i (take steps o)
 
   needed : 5 + steps * 2 ≡ length walkWords
   needed =
@@ -206,12 +206,12 @@ module _ (ws : List ℕ) (i : ℕ) (cost steps : ℕ) (o : List ℕ) (h : Laid (
   walk-over out l = listed-over walkWords out (5 + steps * 2) needed l
 
   pub walk-fits : (out : List ℕ) → 5 + steps * 2 ≤ length out → i < vertexCount ws → (x : ℕ) → x ≡ getD ws (vertexWord i) 0
-      → (mid : List ℕ) → mid ≡ over (headWords cost (steps + 1) x) out → (exit : List ℕ) → exit ≡ laidAt 5 (stepWords (read limit ws) i (take steps o)) mid
+      → (mid : List ℕ) → mid ≡ over (pathHead cost (steps + 1) x) out → (exit : List ℕ) → exit ≡ laidAt 5 (stepWords (read limit ws) i (take steps o)) mid
       → result (Done (5 + steps * 2)) exit ≡ listed walkWords out
   walk-fits out l hi x ex mid em exit ee =
       listed-fits walkWords out (5 + steps * 2) needed exit l
-      (ee ∙ laid-on (headWords cost (steps + 1) (numberOf (read limit ws) i)) (stepWords (read limit ws) i (take steps o)) out mid 5
-      (em ∙ ap (λ (z : ℕ). over (headWords cost (steps + 1) z) out) (ex ∙ sym (live-at limit ws i hi))) refl)
+      (ee ∙ laid-on (pathHead cost (steps + 1) (numberOf (read limit ws) i)) (stepWords (read limit ws) i (take steps o)) out mid 5
+      (em ∙ ap (λ (z : ℕ). over (pathHead cost (steps + 1) z) out) (ex ∙ sym (live-at limit ws i hi))) refl)
 
 -- ---- the costs
 
@@ -223,12 +223,12 @@ module _ (mark : ℕ) where
   reached-no e = rw (ne-eqb mark 2 e)
 
 -- k is the count so far, r what `one_reached` found
-module _ (m : List ℕ) (v k : ℕ) (e : k ≡ count (reached m) v) where
-  pub count-next : (r : ℕ) → r ≡ bit (eqb (getD m v 0) 2) → k + r ≡ count (reached m) (v + 1)
+module _ (m : List ℕ) (v k : ℕ) (e : k ≡ count (isReached m) v) where
+  pub count-next : (r : ℕ) → r ≡ bit (eqb (getD m v 0) 2) → k + r ≡ count (isReached m) (v + 1)
   count-next r er = rw (add-one v) (omega (arith, e, er))
 
-  pub count-all : (n : ℕ) → v ≤ n → n ≤ v → k ≡ count (reached m) n
-  count-all n a b = e ∙ ap (count (reached m)) (le-antisymm a b)
+  pub count-all : (n : ℕ) → v ≤ n → n ≤ v → k ≡ count (isReached m) n
+  count-all n a b = e ∙ ap (count (isReached m)) (le-antisymm a b)
 
 -- p is what `vertex_number` found of record v
 pub cost-laid : (ws : List ℕ) (v key : ℕ) → v < vertexCount ws → (p : ℕ) → p ≡ getD ws (vertexWord v) 0 → (at : ℕ) (out exit : List ℕ)
@@ -236,10 +236,10 @@ pub cost-laid : (ws : List ℕ) (v key : ℕ) → v < vertexCount ws → (p : �
 cost-laid ws v key h p e at out exit q = q ∙ ap (λ (x : ℕ). laidAt at (x ∷ low (key / 65536) ∷ high (key / 65536) ∷ []) out) (e ∙ sym (live-at limit ws v h))
 
 module _ (t : Table) (m d : List ℕ) (v : ℕ) where
-  pub record-no : (at : ℕ) (out : List ℕ) → at + 3 * bit (reached m v) ≤ length out → (getD m v 0 ≡ 2 → ⊥) → Put at (keyWords t m d v) out at out
+  pub record-no : (at : ℕ) (out : List ℕ) → at + 3 * bit (isReached m v) ≤ length out → (getD m v 0 ≡ 2 → ⊥) → Put at (keyWords t m d v) out at out
   unfolding keyWords
   record-no at out l h =
-      let e : reached m v ≡ false = ne-eqb (getD m v 0) 2 h in
+      let e : isReached m v ≡ false = ne-eqb (getD m v 0) 2 h in
       record {
         wrote = rw e (sym (ap (λ (w : List ℕ). over w out) (append-nil (take at out)) ∙ over-front at out (omega arith)));
         after = rw e (omega arith);
@@ -248,21 +248,21 @@ module _ (t : Table) (m d : List ℕ) (v : ℕ) where
   pub record-yes : (at : ℕ) (out exit : List ℕ) → getD m v 0 ≡ 2 → exit ≡ laidAt at (numberOf t v ∷ low (getD d v 0 / 65536) ∷ high (getD d v 0 / 65536) ∷ []) out
       → Put at (keyWords t m d v) out (at + 3) exit
   unfolding keyWords
-  record-yes at out exit h q = let e : reached m v ≡ true = eq-eqb (getD m v 0) 2 h in record { wrote = rw e q; after = rw e }
+  record-yes at out exit h q = let e : isReached m v ≡ true = eq-eqb (getD m v 0) 2 h in record { wrote = rw e q; after = rw e }
 
-pub record-room : (m : List ℕ) (v at : ℕ) (out : List ℕ) → at + 3 * bit (reached m v) ≤ length out → getD m v 0 ≡ 2 → at + 3 ≤ length out
+pub record-room : (m : List ℕ) (v at : ℕ) (out : List ℕ) → at + 3 * bit (isReached m v) ≤ length out → getD m v 0 ≡ 2 → at + 3 ≤ length out
 record-room m v at out l h = omega (arith, ap bit (eq-eqb (getD m v 0) 2 h))
 
 module _ (t : Table) (m d : List ℕ) where
-  words-length : (v : ℕ) → length (keyWords t m d v) ≡ 3 * bit (reached m v)
+  words-length : (v : ℕ) → length (keyWords t m d v) ≡ 3 * bit (isReached m v)
   unfolding keyWords
-  words-length v = on (reached m v) (λ e. rw e) (λ e. rw e)
+  words-length v = on (isReached m v) (λ e. rw e) (λ e. rw e)
 
   keys-more : (k : ℕ) → keysBelow t m d (suc k) ≡ keysBelow t m d k ++ keyWords t m d k
   unfolding keysBelow
   keys-more k = ap (flat (keyWords t m d)) (tab-suc (λ (v : ℕ). v) k) ∙ flat-snoc (keyWords t m d) (tab (λ v. v) k) k
 
-  pub keys-length : (k : ℕ) → length (keysBelow t m d k) ≡ count (reached m) k * 3
+  pub keys-length : (k : ℕ) → length (keysBelow t m d k) ≡ count (isReached m) k * 3
   unfolding keysBelow tab flat
   keys-length zero = refl
   keys-length (suc k) = omega (arith, ap length (keys-more k), length-append (keysBelow t m d k) (keyWords t m d k), keys-length k, words-length k)
@@ -277,10 +277,10 @@ module _ (t : Table) (m d : List ℕ) where
   unfolding keysBelow tab flat
   keyed-first out₀ = record { same = refl; wrote = sym (over-none out₀); place = refl }
 
-  module _ {out₀ : List ℕ} {v at : ℕ} {out : List ℕ} (h : Keyed out₀ v at out) (n : ℕ) (room : count (reached m) n * 3 ≤ length out₀) where
-    pub keyed-room : v < n → at + 3 * bit (reached m v) ≤ length out
+  module _ {out₀ : List ℕ} {v at : ℕ} {out : List ℕ} (h : Keyed out₀ v at out) (n : ℕ) (room : count (isReached m) n * 3 ≤ length out₀) where
+    pub keyed-room : v < n → at + 3 * bit (isReached m v) ≤ length out
     keyed-room l =
-        omega (arith, h .same, h .place, keys-length v, keys-length (suc v), count-upto (reached m) n (suc v) (omega arith), ap length (keys-more v), length-append (keysBelow t m d v) (keyWords t m d v), words-length v)
+        omega (arith, h .same, h .place, keys-length v, keys-length (suc v), count-upto (isReached m) n (suc v) (omega arith), ap length (keys-more v), length-append (keysBelow t m d v) (keyWords t m d v), words-length v)
 
     pub keyed-more : v < n → (next : ℕ) (exit : List ℕ) → Put at (keyWords t m d v) out next exit → Keyed out₀ (v + 1) next exit
     keyed-more l next exit p = record {
@@ -310,9 +310,9 @@ module _ (ws : List ℕ) (x : ℕ) (m d : List ℕ)
       ∙ each (vertexCount ws) (omega arith)
 
   -- k is what `count_reached` found
-  module _ (n k : ℕ) (en : n ≡ vertexCount ws) (ek : k ≡ count (reached m) n) (out : List ℕ) where
+  module _ (n k : ℕ) (en : n ≡ vertexCount ws) (ek : k ≡ count (isReached m) n) (out : List ℕ) where
     counted : k * 3 ≡ length (costsFrom (read limit ws) x)
-    counted = omega (arith, ek, ap (count (reached m)) en, keys-length (read limit ws) m d (vertexCount ws), ap length costs-are)
+    counted = omega (arith, ek, ap (count (isReached m)) en, keys-length (read limit ws) m d (vertexCount ws), ap length costs-are)
 
     pub costs-over : length out < k * 3 → result (NoRoom (k * 3)) out ≡ listed (costsFrom (read limit ws) x) out
     costs-over l = listed-over (costsFrom (read limit ws) x) out (k * 3) counted l

@@ -81,14 +81,14 @@ entriesAfter t x [] = []
 entriesAfter t x (v ∷ l) = v ∷ stepHyperedge t x v ∷ entriesAfter t v l
 
 -- the total (low word, high word), the count of entries and the entries; unreachable: cost 0, no entries
-unfoldable pub pairWords : Table → ℕ → Option (List ℕ) → List ℕ
-pairWords t x none = 0 ∷ 0 ∷ 0 ∷ []
-pairWords t x (some l) =
+unfoldable pub pathWords : Table → ℕ → Option (List ℕ) → List ℕ
+pathWords t x none = 0 ∷ 0 ∷ 0 ∷ []
+pathWords t x (some l) =
     low (total (stepCost t) x l) ∷ high (total (stepCost t) x l) ∷ suc (length l) ∷ x ∷ noNumber ∷ entriesAfter t x l
 
 -- 3 for the first, 3 for the second, 11
 unfoldable pub pairResult : ℕ → ℕ → List ℕ → Table → Result
-pairResult x y lent t = onLiveVertices t (x ∷ y ∷ []) lent (listed (pairWords t x (bestPath t x y)) lent)
+pairResult x y lent t = onLiveVertices t (x ∷ y ∷ []) lent (listed (pathWords t x (bestPath t x y)) lent)
 
 -- ---- from a vertex
 

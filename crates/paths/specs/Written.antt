@@ -8,7 +8,7 @@ use lib.ListN.{length, getD, take}
 use Rattle.lists.specs.Lists.{Below, tab, flat, over}
 use Rattle.layout.specs.Content.{Table}
 use Rattle.steps.specs.Matrices.{numberOf}
-use Rattle.paths.specs.Paths.{low, high, noNumber, entriesAfter, bestPath, pairWords}
+use Rattle.paths.specs.Paths.{low, high, noNumber, entriesAfter, bestPath, pathWords}
 
 -- the records of a walk stand in the first places of o
 pub record Laid (n steps : ℕ) (o : List ℕ) : Type 0 where
@@ -18,7 +18,7 @@ pub record Laid (n steps : ℕ) (o : List ℕ) : Type 0 where
 
 -- the pair of records i and j
 abbrev pub pairBetween : Table → ℕ → ℕ → List ℕ
-pairBetween t i j = pairWords t (numberOf t i) (bestPath t (numberOf t i) (numberOf t j))
+pairBetween t i j = pathWords t (numberOf t i) (bestPath t (numberOf t i) (numberOf t j))
 
 -- no walk: cost 0, no entries
 abbrev pub noPath : List ℕ
@@ -29,20 +29,20 @@ abbrev pub laidAt : ℕ → List ℕ → List ℕ → List ℕ
 laidAt at xs out = over (take at out ++ xs) out
 
 -- the cost, the count of entries and the first entry
-abbrev pub headWords : ℕ → ℕ → ℕ → List ℕ
-headWords cost count x = low cost ∷ high cost ∷ count ∷ x ∷ noNumber ∷ []
+abbrev pub pathHead : ℕ → ℕ → ℕ → List ℕ
+pathHead cost count x = low cost ∷ high cost ∷ count ∷ x ∷ noNumber ∷ []
 
 -- the entries after the first of a walk from record i, by its records
 abbrev pub stepWords : Table → ℕ → List ℕ → List ℕ
 stepWords t i l = entriesAfter t (numberOf t i) (map (numberOf t) l)
 
--- the mark of record v says that it is reached
-abbrev pub reached : List ℕ → ℕ → Bool
-reached m v = eqb (getD m v 0) 2
+-- the mark of record v says that it is isReached
+abbrev pub isReached : List ℕ → ℕ → Bool
+isReached m v = eqb (getD m v 0) 2
 
--- the words of record v, where its mark says that it is reached: its key has the cost above the low 16 bits
+-- the words of record v, where its mark says that it is isReached: its key has the cost above the low 16 bits
 unfoldable pub keyWords : Table → List ℕ → List ℕ → ℕ → List ℕ
-keyWords t m d v = cond (reached m v) (numberOf t v ∷ low (getD d v 0 / 65536) ∷ high (getD d v 0 / 65536) ∷ []) []
+keyWords t m d v = cond (isReached m v) (numberOf t v ∷ low (getD d v 0 / 65536) ∷ high (getD d v 0 / 65536) ∷ []) []
 
 -- of the records below k
 unfoldable pub keysBelow : Table → List ℕ → List ℕ → ℕ → List ℕ

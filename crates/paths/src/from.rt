@@ -11,12 +11,12 @@ ghost use Rattle.layout.specs.WellFormed.{Formed};
 ghost use Rattle.layout.specs.Answers.{result, listed};
 ghost use Rattle.steps.specs.Matrices.{numberOf};
 ghost use Rattle.paths.specs.Paths.{low, high, costsFrom};
-ghost use Rattle.paths.specs.Written.{laidAt, reached, keyWords, keysBelow, Put};
+ghost use Rattle.paths.specs.Written.{laidAt, isReached, keyWords, keysBelow, Put};
 use crate::choices;
 use crate::words;
 use layout::Answer;
 
-// 1 for the mark of a record that is reached, else 0.
+// 1 for the mark of a record that is isReached, else 0.
 fn one_reached(mark: u8) -> usize
     ensures { λ r. ⌜ r ≡ bit (eqb mark 2) ⌝ }
 {
@@ -26,10 +26,10 @@ fn one_reached(mark: u8) -> usize
     0
 }
 
-// How many of the first n records are reached.
+// How many of the first n records are isReached.
 fn count_reached(n: usize, m: &[u8; 256]) -> usize
     requires { ⌜ n ≤ 256 ⌝ }
-    ensures { λ r. ⌜ (r ≡ count (reached (now (m .entry))) n) × (r ≤ n) ⌝ }
+    ensures { λ r. ⌜ (r ≡ count (isReached (now (m .entry))) n) × (r ≤ n) ⌝ }
 {
     let mut k: usize = 0;
     let mut v = 0;
@@ -56,7 +56,7 @@ fn put_cost(t: &[u32], v: usize, key: u64, at: usize, out: &mut [u32])
     );
 }
 
-// The words of record v, where it is reached, at place `at`; the place after them.
+// The words of record v, where it is isReached, at place `at`; the place after them.
 fn put_record(
     t: &[u32],
     m: &[u8; 256],
@@ -66,7 +66,7 @@ fn put_record(
     out: &mut [u32],
 ) -> usize
     requires { ⌜ Formed limit (now t) ⌝ }
-    requires { ⌜ (v < vertexCount (now t)) × (at + 3 * bit (reached (now m) v) ≤ length (now out)) ⌝ }
+    requires { ⌜ (v < vertexCount (now t)) × (at + 3 * bit (isReached (now m) v) ≤ length (now out)) ⌝ }
     ensures { λ r. ⌜ Put at (keyWords (read limit (now (t .entry))) (now (m .entry)) (now (d .entry)) v) (now (out .entry)) r (now (out .exit)) ⌝ }
 {
     if m[v] != 2 {
@@ -76,10 +76,10 @@ fn put_record(
     at + 3
 }
 
-// Writes the words of the records that are reached, ascending.
+// Writes the words of the records that are isReached, ascending.
 fn put_costs(t: &[u32], n: usize, m: &[u8; 256], d: &[u64; 256], out: &mut [u32])
     requires { ⌜ Formed limit (now t) ⌝ }
-    requires { ⌜ (n ≡ vertexCount (now t)) × (count (reached (now m)) n * 3 ≤ length (now out)) ⌝ }
+    requires { ⌜ (n ≡ vertexCount (now t)) × (count (isReached (now m)) n * 3 ≤ length (now out)) ⌝ }
     ensures { λ _. ⌜ now (out .exit) ≡ over (keysBelow (read limit (now (t .entry))) (now (m .entry)) (now (d .entry)) n) (now (out .entry)) ⌝ }
 {
     let mut at = 0;

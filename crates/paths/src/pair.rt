@@ -11,7 +11,7 @@ ghost use Rattle.layout.specs.Answers.{result, listed};
 ghost use Rattle.steps.specs.Matrices.{numberOf};
 ghost use Rattle.paths.specs.Paths.{hyperedgeBy};
 ghost use Rattle.paths.specs.Choices.{Chosen};
-ghost use Rattle.paths.specs.Written.{Laid, laidAt, noPath, headWords, stepWords, pairBetween};
+ghost use Rattle.paths.specs.Written.{Laid, laidAt, noPath, pathHead, stepWords, pairBetween};
 use crate::choices;
 use crate::words;
 use layout::Answer;
@@ -34,7 +34,7 @@ fn number_at(t: &[u32], h: u8) -> u32
 // The cost, the count of entries and the first entry.
 fn put_head(cost: u64, count: usize, x: u32, out: &mut [u32])
     requires { ⌜ (5 ≤ length (now out)) × (count ≤ 65536) ⌝ }
-    ensures { λ _. ⌜ now (out .exit) ≡ over (headWords cost count x) (now (out .entry)) ⌝ }
+    ensures { λ _. ⌜ now (out .exit) ≡ over (pathHead cost count x) (now (out .entry)) ⌝ }
 {
     out[0] = (cost % 4294967296) as u32;
     out[1] = (cost / 4294967296) as u32;
@@ -94,7 +94,7 @@ fn list_walk(
 ) -> Answer
     requires { ⌜ Formed limit (now t) ⌝ }
     requires { ⌜ Chosen true (now t) (now c) × (i < vertexCount (now t)) × Laid (vertexCount (now t)) steps (now walk) ⌝ }
-    ensures { λ r. ⌜ result r (now (out .exit)) ≡ listed (headWords cost (steps + 1) (numberOf (read limit (now (t .entry))) i) ++ stepWords (read limit (now (t .entry))) i (take steps (now (walk .entry)))) (now (out .entry)) ⌝ }
+    ensures { λ r. ⌜ result r (now (out .exit)) ≡ listed (pathHead cost (steps + 1) (numberOf (read limit (now (t .entry))) i) ++ stepWords (read limit (now (t .entry))) i (take steps (now (walk .entry)))) (now (out .entry)) ⌝ }
 {
     let needed = 5 + steps * 2;
     if out.len() < needed {

@@ -25,7 +25,7 @@ use Rattle.structural.specs.Closure.{closureOf, closureResult}
 use Rattle.cut.specs.Cut.{cutVertices, cutVerticesResult}
 use Rattle.properties.specs.Properties.{orphanVertices, orphanHyperedges, uniform, endpoints, inclusions, nestedness}
 use Rattle.properties.specs.Results.{orphanVerticesResult, orphanHyperedgesResult, endpointsResult, uniformResult, inclusionsResult, nestednessResult}
-use Rattle.paths.specs.Paths.{pairWords, bestPath, costsFrom, pairResult, fromResult}
+use Rattle.paths.specs.Paths.{pathWords, bestPath, costsFrom, pairResult, fromResult}
 use Rattle.walk.specs.Walk.{walk, walkResult}
 use Rattle.frames.specs.Frames.{frameText, writeResult}
 use Rattle.frames.specs.Reading.{contentOf, accepted, faultyLine, readResult}
@@ -167,9 +167,9 @@ module _ (ws : List ℕ) where
     unfolding onLive
     nestedness-judged = listing-judged [] (nestedness (content ws)) (nestednessResult out) refl
 
-    pub pair-judged : (x y : ℕ) → Judged (listingGrounds (x ∷ y ∷ []) (pairWords (content ws) x (bestPath (content ws) x y)) out ws) out (onFormed ws out (pairResult x y out))
+    pub pair-judged : (x y : ℕ) → Judged (listingGrounds (x ∷ y ∷ []) (pathWords (content ws) x (bestPath (content ws) x y)) out ws) out (onFormed ws out (pairResult x y out))
     unfolding pairResult
-    pair-judged x y = listing-judged (x ∷ y ∷ []) (pairWords (content ws) x (bestPath (content ws) x y)) (pairResult x y out) refl
+    pair-judged x y = listing-judged (x ∷ y ∷ []) (pathWords (content ws) x (bestPath (content ws) x y)) (pairResult x y out) refl
 
     pub from-judged : (x : ℕ) → Judged (listingGrounds (x ∷ []) (costsFrom (content ws) x) out ws) out (onFormed ws out (fromResult x out))
     unfolding fromResult

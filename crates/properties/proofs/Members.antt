@@ -22,7 +22,7 @@ use Rattle.layout.specs.WellFormed.{wellFormed, Formed}
 use Rattle.layout.specs.Answers.{result, onFormed}
 use Rattle.layout.proofs.Answers.{formed-by, on-formed, listed-fits}
 use Rattle.layout.proofs.Shape.{count-pos}
-use Rattle.properties.specs.Properties.{hasMembers, orphanHyperedges, uniform}
+use Rattle.properties.specs.Properties.{hasCount, orphanHyperedges, uniform}
 use Rattle.properties.specs.Results.{orphanHyperedgesResult}
 
 pub members-count : (L : ℕ) (ws : List ℕ) → Formed L ws → (j : ℕ) → j < hyperedgeCount ws → length (membersAt L ws j) ≡ countAt L ws j
@@ -38,10 +38,10 @@ filter-none p [] d h = refl
 filter-none p (x ∷ xs) d h = rw (h zero (zero-lt-suc (length xs))) (filter-none p xs d (λ i l. h (suc i) (suc-le-suc l)))
 
 pub no-orphans : (L : ℕ) (ws : List ℕ) → Formed L ws → orphanHyperedges (read L ws) ≡ []
-unfolding orphanHyperedges hasMembers
-no-orphans L ws f = ap (map hyperedgeNumber) (filter-none (hasMembers 0) (readHyperedges L ws) (hyperedgeAt L ws 0) bare)
+unfolding orphanHyperedges hasCount
+no-orphans L ws f = ap (map hyperedgeNumber) (filter-none (hasCount 0) (readHyperedges L ws) (hyperedgeAt L ws 0) bare)
   where
-    bare : (i : ℕ) → i < length (readHyperedges L ws) → hasMembers 0 (getD (readHyperedges L ws) i (hyperedgeAt L ws 0)) ≡ false
+    bare : (i : ℕ) → i < length (readHyperedges L ws) → hasCount 0 (getD (readHyperedges L ws) i (hyperedgeAt L ws 0)) ≡ false
     bare i l =
         let h : i < hyperedgeCount ws = rw length-tab at l in
         rw (getD-tab (hyperedgeAt L ws) (hyperedgeCount ws) i (hyperedgeAt L ws 0) h)
@@ -59,12 +59,12 @@ none-listed ws r e h out =
 -- ---- the loop over j: m is what `hyperedge_count` found, x what `member_count` found
 
 abbrev pub countIs : ℕ → ℕ → List ℕ → ℕ → Bool
-countIs L k ws j = hasMembers k (hyperedgeAt L ws j)
+countIs L k ws j = hasCount k (hyperedgeAt L ws j)
 
 module _ (L : ℕ) (ws : List ℕ) (f : Formed L ws) (k m j : ℕ) (e : m ≡ hyperedgeCount ws) where
   module _ (x : ℕ) (q : x ≡ countAt L ws j) (h : j < m) where
     same : eqb x k ≡ countIs L k ws j
-    unfolding hasMembers
+    unfolding hasCount
     same = ap (λ (n : ℕ). eqb n k) (q ∙ sym (members-count L ws f j (omega arith)))
 
     pub uniform-on : every (countIs L k ws) j ≡ true → x ≡ k → every (countIs L k ws) (j + 1) ≡ true
@@ -72,8 +72,8 @@ module _ (L : ℕ) (ws : List ℕ) (f : Formed L ws) (k m j : ℕ) (e : m ≡ hy
 
     pub uniform-no : (x ≡ k → ⊥) → false ≡ uniform k (read L ws)
     unfolding uniform
-    uniform-no ne = every-no (countIs L k ws) (hyperedgeCount ws) j (eqb x k) same (omega arith) (ap not (ne-eqb x k ne)) ∙ sym (all-tab (hasMembers k) (hyperedgeAt L ws) (hyperedgeCount ws))
+    uniform-no ne = every-no (countIs L k ws) (hyperedgeCount ws) j (eqb x k) same (omega arith) (ap not (ne-eqb x k ne)) ∙ sym (all-tab (hasCount k) (hyperedgeAt L ws) (hyperedgeCount ws))
 
   pub uniform-end : every (countIs L k ws) j ≡ true → j ≤ m → m ≤ j → true ≡ uniform k (read L ws)
   unfolding uniform
-  uniform-end inv a b = every-end (countIs L k ws) (hyperedgeCount ws) j inv (omega arith) (omega arith) ∙ sym (all-tab (hasMembers k) (hyperedgeAt L ws) (hyperedgeCount ws))
+  uniform-end inv a b = every-end (countIs L k ws) (hyperedgeCount ws) j inv (omega arith) (omega arith) ∙ sym (all-tab (hasCount k) (hyperedgeAt L ws) (hyperedgeCount ws))

@@ -24,7 +24,7 @@ use Rattle.marks.specs.Marks.{isMarked}
 use Rattle.steps.proofs.Any.{any-at, any-of}
 use Rattle.lookups.specs.State.{noMarks}
 use Rattle.lookups.proofs.Marking.{no-marks-length}
-use Rattle.properties.specs.Properties.{isWithin, hasSize, isIncluded, includedOfSize, included, total, isSize, row, nestedness}
+use Rattle.properties.specs.Properties.{isWithin, hasSize, isIncluded, includedOfSize, included, totalOf, isSize, row, nestedness}
 use Rattle.properties.specs.State.{Sets, Including, Classed, sizeAt, rowIf, Wrote}
 use Rattle.properties.proofs.Blocks.{wrote-none, wrote-three}
 
@@ -120,8 +120,8 @@ module _ (ws sizes : List ℕ) (all inc : List Bool) (w : Classed ws sizes all i
 
   -- c is what `count_of_size` found of all records
   module _ (c : ℕ) (q : c ≡ count (sizeAt sizes all s) k) where
-    total-is : c ≡ total (read limit ws) s
-    unfolding total
+    total-is : c ≡ totalOf (read limit ws) s
+    unfolding totalOf
     total-is = q ∙ total-count ∙ sym (filter-count (hasSize (read limit ws) s) (hyperedgeAt limit ws) (hyperedgeCount ws))
 
     row-no : c ≡ 0 → rowIf (read limit ws) s ≡ []

@@ -23,7 +23,7 @@ use Rattle.layout.proofs.Read.{live-length}
 use Rattle.marks.specs.Marks.{isMarked}
 use Rattle.steps.specs.Matrices.{cell}
 use Rattle.lookups.specs.State.{someOf, noMarks, MarkedBy}
-use Rattle.properties.specs.Properties.{memberSet, size, under, within, isWithin}
+use Rattle.properties.specs.Properties.{memberSet, setSize, under, within, isWithin}
 use Rattle.properties.specs.State.{rowOf, SetOf, RowPut, Sets}
 use Rattle.properties.proofs.Marking.{any-memb, marks-are}
 use Rattle.properties.proofs.Subsets.{strict-no, strict-if, within-ext}
@@ -72,7 +72,7 @@ module _ {ws : List ℕ} {j : ℕ} {m : List Bool} {sizes : List ℕ} (w : Sets 
   -- marks is what `member_marks` returned, next what `put_row` left, c what `count_marked` found
   pub sets-more : (marks next : List Bool) (n c : ℕ) → Formed limit ws → n ≡ vertexCount ws → j < hyperedgeCount ws → SetOf ws j (isMarked marks) → RowPut marks j m vertexLimit next
       → c ≡ count (isMarked marks) n → Sets ws (j + 1) next (set sizes j c)
-  unfolding size
+  unfolding setSize
   sets-more marks next n c f e h s r q =
       let below : j < vertexLimit = omega (arith, f .shape .hyperedges-le) in
       record {
@@ -137,12 +137,12 @@ module _ (m : List Bool) (a b : ℕ) where
 
 module _ (ws : List ℕ) (m : List Bool) (sizes : List ℕ) (w : Sets ws (hyperedgeCount ws) m sizes) (a b : ℕ) (ha : a < hyperedgeCount ws) (hb : b < hyperedgeCount ws) where
   pub sizes-no : getD sizes b 0 ≤ getD sizes a 0 → false ≡ isWithin (read limit ws) (hyperedgeAt limit ws a) (hyperedgeAt limit ws b)
-  unfolding isWithin size
+  unfolding isWithin setSize
   sizes-no h = strict-no (length (readVertices ws)) (memberSet (read limit ws) (hyperedgeAt limit ws a)) (memberSet (read limit ws) (hyperedgeAt limit ws b)) (omega (arith, w .counts a ha, w .counts b hb))
 
   pub sizes-if : (n : ℕ) (r : Bool) → n ≡ vertexCount ws → getD sizes a 0 < getD sizes b 0 → r ≡ within n (rowOf m a) (rowOf m b)
       → r ≡ isWithin (read limit ws) (hyperedgeAt limit ws a) (hyperedgeAt limit ws b)
-  unfolding isWithin size
+  unfolding isWithin setSize
   sizes-if n r e h q =
       q ∙ within-ext n (rowOf m a) (rowOf m b) (memberSet (read limit ws) (hyperedgeAt limit ws a)) (memberSet (read limit ws) (hyperedgeAt limit ws b))
       (λ i l. w .marks a ha i (omega arith)) (λ i l. w .marks b hb i (omega arith))

@@ -18,12 +18,12 @@ unfoldable pub memberSet : Table → Hyperedge → ℕ → Bool
 memberSet t e i = lists (numberOf t i) e
 
 -- how many vertices are members, repeats not counted
-unfoldable pub size : Table → Hyperedge → ℕ
-size t e = count (memberSet t e) (length (t .vertices))
+unfoldable pub setSize : Table → Hyperedge → ℕ
+setSize t e = count (memberSet t e) (length (t .vertices))
 
 -- the hyperedge has s distinct members
 unfoldable pub hasSize : Table → ℕ → Hyperedge → Bool
-hasSize t s e = eqb (size t e) s
+hasSize t s e = eqb (setSize t e) s
 
 -- where the one is marked, so is the other
 unfoldable pub under : (ℕ → Bool) → (ℕ → Bool) → ℕ → Bool
@@ -48,18 +48,18 @@ unfoldable pub orphanVertices : Table → List ℕ
 orphanVertices t = filter (isOrphan t) (liveVertices t)
 
 -- the hyperedge has k members, repeats counted
-unfoldable pub hasMembers : ℕ → Hyperedge → Bool
-hasMembers k e = eqb (length (e .members)) k
+unfoldable pub hasCount : ℕ → Hyperedge → Bool
+hasCount k e = eqb (length (e .members)) k
 
 -- the hyperedges without members, ascending
 unfoldable pub orphanHyperedges : Table → List ℕ
-orphanHyperedges t = map hyperedgeNumber (filter (hasMembers 0) (t .hyperedges))
+orphanHyperedges t = map hyperedgeNumber (filter (hasCount 0) (t .hyperedges))
 
--- ---- uniform size
+-- ---- uniform setSize
 
 -- every hyperedge has k members; so it is with no hyperedges
 unfoldable pub uniform : ℕ → Table → Bool
-uniform k t = all (hasMembers k) (t .hyperedges)
+uniform k t = all (hasCount k) (t .hyperedges)
 
 -- ---- endpoints
 
@@ -111,25 +111,25 @@ inclusions t = flat (pairsOf t) (t .hyperedges)
 unfoldable pub isIncluded : Table → Hyperedge → Bool
 isIncluded t e = any (isWithin t e) (t .hyperedges)
 
--- a hyperedge of the size that is the first member of some pair
+-- a hyperedge of the setSize that is the first member of some pair
 unfoldable pub includedOfSize : Table → ℕ → Hyperedge → Bool
 includedOfSize t s e = hasSize t s e and isIncluded t e
 
--- how many hyperedges of the size are the first member of some pair, and how many there are
+-- how many hyperedges of the setSize are the first member of some pair, and how many there are
 unfoldable pub included : Table → ℕ → ℕ
 included t s = length (filter (includedOfSize t s) (t .hyperedges))
 
-unfoldable pub total : Table → ℕ → ℕ
-total t s = length (filter (hasSize t s) (t .hyperedges))
+unfoldable pub totalOf : Table → ℕ → ℕ
+totalOf t s = length (filter (hasSize t s) (t .hyperedges))
 
--- some hyperedge has the size
+-- some hyperedge has the setSize
 unfoldable pub isSize : Table → ℕ → Bool
 isSize t s = any (hasSize t s) (t .hyperedges)
 
--- size, included, total
+-- setSize, included, totalOf
 unfoldable pub row : Table → ℕ → List ℕ
-row t s = s ∷ included t s ∷ total t s ∷ []
+row t s = s ∷ included t s ∷ totalOf t s ∷ []
 
--- a row for each size that some hyperedge has, ascending; no size is above the number of vertices
+-- a row for each setSize that some hyperedge has, ascending; no setSize is above the number of vertices
 unfoldable pub nestedness : Table → List ℕ
 nestedness t = flat (row t) (chosen (isSize t) (suc (length (t .vertices))))

@@ -10,7 +10,7 @@ use Rattle.lists.specs.Tests.{_and_}
 use Rattle.lists.specs.Lists.{all, isBelow, flat}
 use Rattle.lists.proofs.Cases.{on, clash, and-left, and-right, and-both}
 use Rattle.layout.specs.Layout.{limit, size, vertexLimit, hyperedgeLimit}
-use Rattle.frames.specs.Frames.{byteValues, numberBytes, shortBytes, mark, headFrame, sealed, digit, byteDigits, digits, line}
+use Rattle.frames.specs.Frames.{byteValues, numberBytes, shortBytes, headMark, headFrame, sealed, digit, byteDigits, digits, line}
 use Rattle.frames.specs.Put.{Put}
 use Rattle.frames.specs.Reading.{nextVertexOf, nextHyperedgeOf, verticesDue, hyperedgesDue, standsAt, headGood}
 use Rattle.frames.specs.Bytes.{bytesAt}
@@ -49,9 +49,9 @@ module _ (text : List ℕ) where
             (stands-eq text 0 (line frame) st ∙ opens (nextVertexOf text) (nextHyperedgeOf text) (verticesDue text) (hyperedgesDue text) rest),
       )
 
-  marked : standsAt text 0 opening ≡ true → bytesAt text 0 3 ≡ mark
+  marked : standsAt text 0 opening ≡ true → bytesAt text 0 3 ≡ headMark
   unfolding digits flat byteDigits digit all _and_
-  marked st = digits-bytes text mark 0 (drop 6 text) refl (stands-eq text 0 opening st) .0
+  marked st = digits-bytes text headMark 0 (drop 6 text) refl (stands-eq text 0 opening st) .0
 
   head-is : Sealed text 0 16 → standsAt text 0 opening ≡ true → frame ≡ bytesAt text 0 15
   unfolding frame headFrame

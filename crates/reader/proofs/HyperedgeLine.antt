@@ -13,7 +13,7 @@ use Rattle.lists.proofs.Cases.{on, and-left, and-right, and-both}
 use Rattle.lists.proofs.Tab.{length-tab}
 use Rattle.layout.specs.Content.{isLive, membersLive}
 use Rattle.layout.specs.Layout.{limit}
-use Rattle.layout.specs.WellFormed.{counted}
+use Rattle.layout.specs.WellFormed.{countFits}
 use Rattle.frames.specs.Frames.{byteValues, numberBytes, hyperedgeFrame, hyperedgeLine, sealed}
 use Rattle.frames.specs.Reading.{byteAt, numberIn, weightIn, countIn, memberIn, hyperedgeFrom, standsAt}
 use Rattle.frames.specs.Bytes.{bytesAt}
@@ -112,20 +112,20 @@ module _ (text : List ℕ) (p low high : ℕ) (live : List ℕ) where
   abbrev line-is : Bool
   line-is = standsAt text p (hyperedgeLine (hyperedgeFrom text p))
 
-  fits-parts : hyperedgeFits text p low high live ≡ true → (line-is ≡ true) × (numberFits (numberIn text p) low high ≡ true) × (counted limit (hyperedgeFrom text p) ≡ true)
+  fits-parts : hyperedgeFits text p low high live ≡ true → (line-is ≡ true) × (numberFits (numberIn text p) low high ≡ true) × (countFits limit (hyperedgeFrom text p) ≡ true)
   unfolding hyperedgeFits
   fits-parts f = (and-left _ _ f, and-left _ _ (and-right _ _ f), and-left _ _ (and-right _ _ (and-right _ _ f)))
 
-  count-of : counted limit (hyperedgeFrom text p) ≡ true → (0 < countIn text p) × (countIn text p ≤ limit)
-  unfolding counted
+  count-of : countFits limit (hyperedgeFrom text p) ≡ true → (0 < countIn text p) × (countIn text p ≤ limit)
+  unfolding countFits
   count-of c =
       let n : length (tab (memberIn text p) (countIn text p)) ≡ countIn text p = length-tab (memberIn text p) (countIn text p) in
       let a : 0 < length (tab (memberIn text p) (countIn text p)) = ltb-true _ _ (and-left _ _ c) in
       let b : length (tab (memberIn text p) (countIn text p)) ≤ limit = leb-true _ _ (and-right _ _ c) in
       (omega arith, omega arith)
 
-  counted-by : 0 < countIn text p → countIn text p ≤ limit → counted limit (hyperedgeFrom text p) ≡ true
-  unfolding counted
+  counted-by : 0 < countIn text p → countIn text p ≤ limit → countFits limit (hyperedgeFrom text p) ≡ true
+  unfolding countFits
   counted-by a b = rw (length-tab (memberIn text p) (countIn text p)) (and-both _ _ (lt-ltb 0 (countIn text p) a) (le-leb (countIn text p) limit b))
 
   -- a line that fits is that of a frame, and its first byte is 2
@@ -165,7 +165,7 @@ module _ (text : List ℕ) (p low high : ℕ) (live : List ℕ) where
 
       pub fits-rest : (b x : ℕ) (r t : Bool) → 0 < k → k ≤ limit → b ≡ byteAt text p → b ≡ 2 → x ≡ numberIn text p → r ≡ numberFits x low high → not r ≡ false
           → t ≡ all (isLive live) (tab (memberIn text p) k) → t ≡ hyperedgeFits text p low high live
-      unfolding hyperedgeFits membersLive _and_ counted
+      unfolding hyperedgeFits membersLive _and_ countFits
       fits-rest b x r t a l q two o f n u =
           rw (
             hyperedge-stands text p (rw e at s) (sym q ∙ two),

@@ -8,7 +8,7 @@ use Rattle.lists.specs.Tests.{_and_, every}
 use Rattle.lists.specs.Lists.{tab, flat}
 use Rattle.layout.specs.Content.{liveVertices, membersLive}
 use Rattle.layout.specs.Layout.{limit, recordSize, hyperedgesAt, hyperedgeWords}
-use Rattle.layout.specs.WellFormed.{vertexColumn, counted}
+use Rattle.layout.specs.WellFormed.{vertexColumn, countFits}
 use Rattle.frames.specs.Frames.{hyperedgeLine}
 use Rattle.frames.specs.Put.{Put}
 use Rattle.frames.specs.Reading.{verticesDue, vertexPlace, numberIn, countIn, hyperedgePlace, hyperedgeFrom, hyperedgeIn, hyperedgeGood, contentOf, standsAt}
@@ -20,7 +20,7 @@ unfoldable pub hyperedgeFits : List ℕ → ℕ → ℕ → ℕ → List ℕ →
 hyperedgeFits text p low high live =
     standsAt text p (hyperedgeLine (hyperedgeFrom text p))
     and numberFits (numberIn text p) low high
-    and counted limit (hyperedgeFrom text p)
+    and countFits limit (hyperedgeFrom text p)
     and membersLive live (hyperedgeFrom text p)
 
 -- the head's numbers and every vertex stand in the words, and the text goes on behind the vertex lines

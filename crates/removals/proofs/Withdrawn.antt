@@ -11,7 +11,7 @@ use Rattle.lists.specs.Lists.{any, filter, otherThan, itself}
 use Rattle.lists.proofs.Cases.{clash, and-left, or-right}
 use Rattle.lists.proofs.Kept.{map-ext, filter-ext, all-always, all-then, map-whole, filter-map, filter-length, filter-whole, filter-filter, filter-swap, filter-late, all-other}
 use Rattle.layout.specs.Content.{Vertex, Hyperedge, Table, vertexNumber, hyperedgeNumber, liveVertices, liveHyperedges, isLive, membersLive}
-use Rattle.layout.specs.WellFormed.{counted, holdable}
+use Rattle.layout.specs.WellFormed.{countFits, holdable}
 use Rattle.layout.proofs.Holdable.{Holdable, holdable-of}
 use Rattle.edits.specs.Edits.{without, hasMembers, removeVertex, removeHyperedge}
 use Rattle.edits.proofs.Holdable.{remove-vertex-holdable, remove-hyperedge-holdable}
@@ -85,9 +85,9 @@ withdrawn-first (hyperedge x) rs t = λ i. record {
 
 module _ (L : ℕ) (t : Table) (h : holdable L t ≡ true) where
   full : filter hasMembers (t .hyperedges) ≡ t .hyperedges
-  unfolding counted hasMembers
+  unfolding countFits hasMembers
   full = let p : Holdable L t = holdable-of h in
-      filter-whole hasMembers (t .hyperedges) (all-then (counted L) hasMembers (t .hyperedges) (λ e k. and-left _ _ k) (p .counts))
+      filter-whole hasMembers (t .hyperedges) (all-then (countFits L) hasMembers (t .hyperedges) (λ e k. and-left _ _ k) (p .counts))
 
   pub withdrawn-none : withdrawn [] t ≡ t
   unfolding withdrawn keptVertex keptHyperedge thinned staysVertex staysHyperedge any

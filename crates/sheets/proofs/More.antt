@@ -6,16 +6,16 @@ use Rattle.lists.specs.Tests.{_and_, every, chosen}
 use Rattle.lists.specs.Lists.{all, any, filter, flat, tab, otherThan, over, ascending}
 use Rattle.layout.specs.Content.{position, positionFrom, membersLive, numbered, valid}
 use Rattle.layout.specs.Steps.{stepsOf, isStep, makesStep, hasStep}
-use Rattle.layout.specs.WellFormed.{counted, holdable}
+use Rattle.layout.specs.WellFormed.{countFits, holdable}
 use Rattle.layout.specs.Answers.{onLive, listed}
 use Rattle.graph.specs.Bfs.{push, spread, run, bfs}
 use Rattle.order.specs.Least.{least}
-use Rattle.order.specs.Greedy.{avail, next, rest, greedy}
+use Rattle.order.specs.Greedy.{available, next, rest, greedy}
 use Rattle.depth.specs.Dfs.{tried}
 use Rattle.depth.specs.Pre.{climbs, walks, preorder}
-use Rattle.distance.specs.Best.{lexLe, ahead, better, onward, bestOver, stay, within, best}
+use Rattle.distance.specs.Best.{lexLe, ahead, better, onward, bestOver, stay, bestWithin, best}
 use Rattle.components.specs.Classes.{rooted, rootsFrom, classes}
-use Rattle.steps.specs.Matrices.{linked, listsBoth, together}
+use Rattle.steps.specs.Matrices.{undirected, listsBoth, together}
 use Rattle.edits.specs.Edits.{without, hasMembers, removeVertex}
 use Rattle.lookups.specs.Lookups.{coMember, relates, isRelated, related, isMemberOf, hasMember, isShared, shared, hasEnd, places, placesIn, sum, degree, held, block, listing, connecting, adjacentEntry, fullAdjacent, weighs, verticesWeighing}
 use Rattle.lookups.specs.Results.{relatedResult, onSeveral, intersectionsResult, degreeResult, listingResult, fullAdjacentResult}
@@ -25,17 +25,17 @@ use Rattle.structural.specs.Components.{connected, connectedComponents, connect
 use Rattle.cut.specs.Cut.{recordOf, isLinked, parts, partsSome, isCut, cutVertices, cutVerticesResult}
 use Rattle.properties.specs.Properties as P
 use Rattle.properties.specs.Properties.{isOrphan, orphanVertices, uniform, stepsAt, isEndpoint, sources, sinks, twice, endpoints}
-use Rattle.paths.specs.Paths.{lighter, choiceAmong, choice, stepHyperedge, stepCost, bestPath, entriesAfter, pairWords, pairResult, costWords, costsFrom, fromResult}
+use Rattle.paths.specs.Paths.{lighter, choiceAmong, choice, stepHyperedge, stepCost, bestPath, entriesAfter, pathWords, pairResult, costWords, costsFrom, fromResult}
 use Rattle.sheets.specs.Sheets.{Hold}
 use Rattle.sheets.specs.More.{more}
 use Rattle.sheets.proofs.Sheets.{asked, answered, inWords, hold}
 
 computed : map asked more ≡ map answered more
-unfolding sortResult acyclic sortOf greedy rest next avail least hasStep makesStep isStep stepsOf any _and_ listed over pairResult onLive pairWords bestPath best within stay bestOver onward better ahead lexLe entriesAfter stepHyperedge stepCost choice choiceAmong lighter filter reachable traversal listFrom position positionFrom bfs run spread push flat classes rootsFrom rooted tried chosen removeVertex without hasMembers otherThan listingResult listing block placesIn places every cutVerticesResult cutVertices isCut partsSome parts isLinked recordOf together listsBoth relatedResult related isRelated relates coMember fullAdjacentResult fullAdjacent adjacentEntry connecting degreeResult degree sum hasEnd held verticesWeighing weighs intersectionsResult onSeveral shared isShared hasMember isMemberOf all traversalResult reachableResult preorder walks climbs acyclicResult connectedComponentsResult connectedComponents tab linked connectedResult connected orphanVertices isOrphan endpoints twice sources sinks isEndpoint stepsAt uniform fromResult costsFrom costWords P.hasMembers
+unfolding sortResult acyclic sortOf greedy rest next available least hasStep makesStep isStep stepsOf any _and_ listed over pairResult onLive pathWords bestPath best bestWithin stay bestOver onward better ahead lexLe entriesAfter stepHyperedge stepCost choice choiceAmong lighter filter reachable traversal listFrom position positionFrom bfs run spread push flat classes rootsFrom rooted tried chosen removeVertex without hasMembers otherThan listingResult listing block placesIn places every cutVerticesResult cutVertices isCut partsSome parts isLinked recordOf together listsBoth relatedResult related isRelated relates coMember fullAdjacentResult fullAdjacent adjacentEntry connecting degreeResult degree sum hasEnd held verticesWeighing weighs intersectionsResult onSeveral shared isShared hasMember isMemberOf all traversalResult reachableResult preorder walks climbs acyclicResult connectedComponentsResult connectedComponents tab undirected connectedResult connected orphanVertices isOrphan endpoints twice sources sinks isEndpoint stepsAt uniform fromResult costsFrom costWords P.hasMembers
 computed = refl
 
 all-in-words : all inWords more ≡ true
-unfolding all any holdable counted valid ascending membersLive numbered _and_
+unfolding all any holdable countFits valid ascending membersLive numbered _and_
 all-in-words = refl
 
 pub more-hold : Hold more

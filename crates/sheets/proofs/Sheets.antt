@@ -9,17 +9,17 @@ use Rattle.lists.proofs.Cases.{and-left, and-right}
 use Rattle.layout.specs.Content.{Table, position, positionFrom, membersLive, numbered, valid}
 use Rattle.layout.specs.Layout.{limit, words}
 use Rattle.layout.specs.Steps.{stepsOf, isStep, makesStep, hasStep}
-use Rattle.layout.specs.WellFormed.{counted, holdable}
+use Rattle.layout.specs.WellFormed.{countFits, holdable}
 use Rattle.layout.specs.Answers.{Result, onFormed, onLive, listed}
 use Rattle.layout.proofs.Back.{read-words, words-formed}
 use Rattle.graph.specs.Bfs.{push, spread, run, bfs}
 use Rattle.order.specs.Least.{least}
-use Rattle.order.specs.Greedy.{avail, next, rest, greedy}
+use Rattle.order.specs.Greedy.{available, next, rest, greedy}
 use Rattle.depth.specs.Dfs.{tried, tries, visits}
-use Rattle.depth.specs.Finish.{start, sweep, finished}
-use Rattle.distance.specs.Best.{lexLe, ahead, better, onward, bestOver, stay, within, best}
+use Rattle.depth.specs.Finish.{startAt, sweep, finished}
+use Rattle.distance.specs.Best.{lexLe, ahead, better, onward, bestOver, stay, bestWithin, best}
 use Rattle.components.specs.Classes.{rooted, rootsFrom, classes}
-use Rattle.strong.specs.Strong.{shared, latestFirst}
+use Rattle.strong.specs.Strong.{mutual, latestFirst}
 use Rattle.steps.specs.Matrices.{listsBoth, together}
 use Rattle.edits.specs.Edits.{without, hasMembers, removeVertex}
 use Rattle.edits.specs.Results.{onSome, updateResult, removeVertexResult}
@@ -30,9 +30,9 @@ use Rattle.structural.specs.Sort.{sortOf, acyclic, sortResult}
 use Rattle.structural.specs.Components.{strongComponents, strongComponentsResult}
 use Rattle.structural.specs.Closure.{reachesOther, closureOf, closureResult}
 use Rattle.cut.specs.Cut.{recordOf, isLinked, parts, partsSome, isCut, cutVertices, cutVerticesResult}
-use Rattle.properties.specs.Properties.{memberSet, size, under, strictlyWithin, isWithin, pair, pairsOf, inclusions, hasSize, isIncluded, includedOfSize, included, total, isSize, row, nestedness}
+use Rattle.properties.specs.Properties.{memberSet, setSize, under, strictlyWithin, isWithin, pair, pairsOf, inclusions, hasSize, isIncluded, includedOfSize, included, totalOf, isSize, row, nestedness}
 use Rattle.properties.specs.Properties as P
-use Rattle.paths.specs.Paths.{lighter, choiceAmong, choice, stepHyperedge, stepCost, bestPath, entriesAfter, pairWords, pairResult}
+use Rattle.paths.specs.Paths.{lighter, choiceAmong, choice, stepHyperedge, stepCost, bestPath, entriesAfter, pathWords, pairResult}
 use Rattle.sheets.specs.Sheets.{Case, Hold, sheets}
 
 abbrev pub asked : Case → Result
@@ -61,11 +61,11 @@ hold (c ∷ cs) e h =
 -- ---- the paper's sheets
 
 computed : map asked sheets ≡ map answered sheets
-unfolding sortResult acyclic sortOf greedy rest next avail least hasStep makesStep isStep stepsOf any _and_ listed over pairResult onLive pairWords bestPath best within stay bestOver onward better ahead lexLe entriesAfter stepHyperedge stepCost choice choiceAmong lighter closureResult closureOf filter reachesOther reachable traversal listFrom position positionFrom bfs run spread push flat strongComponentsResult strongComponents classes rootsFrom rooted shared latestFirst finished sweep start visits tries tried chosen removeVertexResult removeVertex without hasMembers otherThan listingResult listing block placesIn places inclusions pairsOf pair isWithin strictlyWithin P.within under memberSet every nestedness row included total includedOfSize isIncluded hasSize isSize size cutVerticesResult cutVertices isCut partsSome parts isLinked recordOf together listsBoth updateResult onSome
+unfolding sortResult acyclic sortOf greedy rest next available least hasStep makesStep isStep stepsOf any _and_ listed over pairResult onLive pathWords bestPath best bestWithin stay bestOver onward better ahead lexLe entriesAfter stepHyperedge stepCost choice choiceAmong lighter closureResult closureOf filter reachesOther reachable traversal listFrom position positionFrom bfs run spread push flat strongComponentsResult strongComponents classes rootsFrom rooted mutual latestFirst finished sweep startAt visits tries tried chosen removeVertexResult removeVertex without hasMembers otherThan listingResult listing block placesIn places inclusions pairsOf pair isWithin strictlyWithin P.within under memberSet every nestedness row included totalOf includedOfSize isIncluded hasSize isSize setSize cutVerticesResult cutVertices isCut partsSome parts isLinked recordOf together listsBoth updateResult onSome
 computed = refl
 
 all-in-words : all inWords sheets ≡ true
-unfolding all any filter removeVertex without hasMembers otherThan holdable counted valid ascending membersLive numbered _and_
+unfolding all any filter removeVertex without hasMembers otherThan holdable countFits valid ascending membersLive numbered _and_
 all-in-words = refl
 
 pub sheets-hold : Hold sheets

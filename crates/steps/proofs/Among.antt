@@ -14,7 +14,7 @@ use Rattle.lists.proofs.All.{all-at}
 use Rattle.lists.proofs.Memb.{memb-self, memb-at}
 use Rattle.layout.specs.Content.{Hyperedge, Table, liveVertices, isLive, membersLive, valid}
 use Rattle.layout.specs.Steps.{stepsOf, isStep, makesStep, hasStep}
-use Rattle.steps.specs.Matrices.{linked, listsBoth, together, turned}
+use Rattle.steps.specs.Matrices.{undirected, listsBoth, together, turned}
 use Rattle.steps.proofs.Any.{any-at, any-of}
 
 -- both ends of the relation are live
@@ -76,6 +76,6 @@ module _ (t : Table) where
     pub turned-among : Among (liveVertices t) (turned (hasStep t))
     turned-among x y e = let r = steps-among y x e in (r .1, r .0)
 
-    pub links-among : Among (liveVertices t) (linked t)
-    unfolding linked
+    pub links-among : Among (liveVertices t) (undirected t)
+    unfolding undirected
     links-among x y e = ⊎-elim (λ p. steps-among x y p) (λ p. turned-among x y p) (or-true (hasStep t x y) (hasStep t y x) e)

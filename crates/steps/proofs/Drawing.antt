@@ -22,7 +22,7 @@ use Rattle.layout.specs.WellFormed.{Formed}
 use Rattle.layout.specs.Steps.{stepsOf, isStep, makesStep, hasStep}
 use Rattle.layout.proofs.Position.{position-found}
 use Rattle.layout.proofs.Read.{live-length, live-ascends}
-use Rattle.steps.specs.Matrices.{numberOf, between, linked, cell, Holds, stepsBetween, turnedBetween, linksBetween}
+use Rattle.steps.specs.Matrices.{numberOf, between, undirected, cell, Holds, stepsBetween, turnedBetween, undirectedBetween}
 use Rattle.steps.specs.Drawn.{firstSteps, along, Drawn, putting}
 use Rattle.steps.proofs.Any.{any-snoc, any-more, steps-more}
 use Rattle.steps.proofs.Holds.{holds-ext, holds-none, holds-putting}
@@ -182,7 +182,7 @@ module _ (ws : List ℕ) where
     unfolding along _and_
     drawn-turned w = holds-ext (λ i j _ _. first-all (numberOf (read limit ws) j) (numberOf (read limit ws) i)) w
 
-    pub drawn-links : Drawn true true ws (hyperedgeCount ws) m → Holds (linksBetween (read limit ws)) (vertexCount ws) m
-    unfolding along _and_ linked
+    pub drawn-links : Drawn true true ws (hyperedgeCount ws) m → Holds (undirectedBetween (read limit ws)) (vertexCount ws) m
+    unfolding along _and_ undirected
     drawn-links w =
         holds-ext (λ i j _ _. ap₂ _||_ (first-all (numberOf (read limit ws) i) (numberOf (read limit ws) j)) (first-all (numberOf (read limit ws) j) (numberOf (read limit ws) i))) w

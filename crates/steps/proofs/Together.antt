@@ -14,7 +14,7 @@ use Rattle.walks.specs.Walks.{Reach, here, step}
 use Rattle.walks.proofs.Walks.{reach-trans, reach-through, reach-map}
 use Rattle.layout.specs.Content.{Table}
 use Rattle.layout.specs.Steps.{stepsOf, isStep, makesStep, hasStep}
-use Rattle.steps.specs.Matrices.{linked, listsBoth, together, turned, Related, LinkIn, TogetherIn}
+use Rattle.steps.specs.Matrices.{undirected, listsBoth, together, turned, Related, UndirectedIn, TogetherIn}
 use Rattle.steps.proofs.Any.{any-at, any-of}
 use Rattle.steps.proofs.Among.{noHyperedge, step-together, together-swap}
 
@@ -44,22 +44,22 @@ list-walk {R} a (b ∷ ms) h y e =
     (or-true (eqb y a) (memb y (b ∷ ms)) e)
 
 module _ (t : Table) where
-  link-swap : (x y : ℕ) → LinkIn t x y → LinkIn t y x
-  unfolding linked
+  link-swap : (x y : ℕ) → UndirectedIn t x y → UndirectedIn t y x
+  unfolding undirected
   link-swap x y e =
       ⊎-elim (λ p. or-right (hasStep t y x) (hasStep t x y) p) (λ p. ap (λ (z : Bool). z || hasStep t x y) p) (or-true (hasStep t x y) (hasStep t y x) e)
 
-  link-together : (x y : ℕ) → LinkIn t x y → TogetherIn t x y
-  unfolding linked
+  link-together : (x y : ℕ) → UndirectedIn t x y → TogetherIn t x y
+  unfolding undirected
   link-together x y e = ⊎-elim (λ p. step-together t x y p) (λ p. together-swap t y x (step-together t y x p)) (or-true (hasStep t x y) (hasStep t y x) e)
 
-  -- two members of a list are linked through its first
-  members-linked : (ms : List ℕ) → ((x y : ℕ) → any (isStep x y) (stepsOf ms) ≡ true → LinkIn t x y) → (x y : ℕ) → memb x ms ≡ true → memb y ms ≡ true → Reach (LinkIn t) x y
+  -- two members of a list are undirected through its first
+  members-linked : (ms : List ℕ) → ((x y : ℕ) → any (isStep x y) (stepsOf ms) ≡ true → UndirectedIn t x y) → (x y : ℕ) → memb x ms ≡ true → memb y ms ≡ true → Reach (UndirectedIn t) x y
   members-linked [] h x y p q = clash p refl
   members-linked (a ∷ ms) h x y p q = reach-trans (reach-swap link-swap (list-walk a ms h x p)) (list-walk a ms h y q)
 
-  together-linked : (x y : ℕ) → TogetherIn t x y → Reach (LinkIn t) x y
-  unfolding together listsBoth linked hasStep makesStep
+  together-linked : (x y : ℕ) → TogetherIn t x y → Reach (UndirectedIn t) x y
+  unfolding together listsBoth undirected hasStep makesStep
   together-linked x y e =
       let r = any-at (listsBoth x y) (t .hyperedges) noHyperedge e in
       members-linked (getD (t .hyperedges) (r .0) noHyperedge .members)
@@ -67,8 +67,8 @@ module _ (t : Table) where
       x y (and-left _ _ (r .2)) (and-right _ _ (r .2))
 
   -- the two walks are one
-  pub reach-together : {x y : ℕ} → Reach (LinkIn t) x y → Reach (TogetherIn t) x y
+  pub reach-together : {x y : ℕ} → Reach (UndirectedIn t) x y → Reach (TogetherIn t) x y
   reach-together a = reach-map link-together a
 
-  pub reach-linked : {x y : ℕ} → Reach (TogetherIn t) x y → Reach (LinkIn t) x y
+  pub reach-linked : {x y : ℕ} → Reach (TogetherIn t) x y → Reach (UndirectedIn t) x y
   reach-linked a = reach-through together-linked a

@@ -12,8 +12,8 @@ use Rattle.layout.specs.Layout.{vertexLimit}
 use Rattle.layout.specs.Steps.{hasStep}
 
 -- a step from x to y or from y to x
-unfoldable pub linked : Table → ℕ → ℕ → Bool
-linked t x y = hasStep t x y || hasStep t y x
+unfoldable pub undirected : Table → ℕ → ℕ → Bool
+undirected t x y = hasStep t x y || hasStep t y x
 
 -- the hyperedge lists x and y
 unfoldable pub listsBoth : ℕ → ℕ → Hyperedge → Bool
@@ -27,8 +27,8 @@ together t x y = any (listsBoth x y) (t .hyperedges)
 abbrev pub Related : (ℕ → ℕ → Bool) → ℕ → ℕ → Type 0
 Related R x y = R x y ≡ true
 
-abbrev pub LinkIn : Table → ℕ → ℕ → Type 0
-LinkIn t = Related (linked t)
+abbrev pub UndirectedIn : Table → ℕ → ℕ → Type 0
+UndirectedIn t = Related (undirected t)
 
 abbrev pub TogetherIn : Table → ℕ → ℕ → Type 0
 TogetherIn t = Related (together t)
@@ -50,8 +50,8 @@ turned R x y = R y x
 abbrev pub turnedBetween : Table → ℕ → ℕ → Bool
 turnedBetween t = between t (turned (hasStep t))
 
-abbrev pub linksBetween : Table → ℕ → ℕ → Bool
-linksBetween t = between t (linked t)
+abbrev pub undirectedBetween : Table → ℕ → ℕ → Bool
+undirectedBetween t = between t (undirected t)
 
 -- where the mark of i and j stands
 abbrev pub cell : ℕ → ℕ → ℕ

@@ -10,7 +10,7 @@ ghost use Rattle.layout.specs.Content.{liveVertices, isLive, position};
 ghost use Rattle.layout.specs.Layout.{limit, vertexLimit, vertexCount, hyperedgeCount, read};
 ghost use Rattle.layout.specs.WellFormed.{Formed};
 ghost use Rattle.layout.specs.Answers.{result, listed};
-ghost use Rattle.steps.specs.Matrices.{cell, Holds, numberOf, stepsBetween, turnedBetween, linksBetween};
+ghost use Rattle.steps.specs.Matrices.{cell, Holds, numberOf, stepsBetween, turnedBetween, undirectedBetween};
 ghost use Rattle.steps.specs.Ordered.{Ordered};
 ghost use Rattle.steps.specs.Drawn.{putting, Drawn};
 use layout::Answer;
@@ -104,7 +104,7 @@ pub fn turned_matrix(t: &[u32], m: &mut [u8; 65536])
 // The matrix of the steps without direction: its walks are those of co-membership.
 pub fn link_matrix(t: &[u32], m: &mut [u8; 65536])
     requires { ⌜ Formed limit (now t) ⌝ }
-    ensures { λ _. ⌜ Holds (linksBetween (read limit (now (t .entry)))) (vertexCount (now (t .entry))) (now (m .exit)) ⌝ }
+    ensures { λ _. ⌜ Holds (undirectedBetween (read limit (now (t .entry)))) (vertexCount (now (t .entry))) (now (m .exit)) ⌝ }
 {
     let blank = [0u8; 65536];
     *m = blank;

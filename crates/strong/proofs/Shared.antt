@@ -10,25 +10,25 @@ use Rattle.graph.specs.Reach.{Edge}
 use Rattle.graph.proofs.Bfs.{bfs-sound, bfs-complete}
 use Rattle.components.specs.Classes.{reached}
 use Rattle.components.proofs.Roots.{Equivalence}
-use Rattle.strong.specs.Strong.{shared}
+use Rattle.strong.specs.Strong.{mutual}
 use Rattle.strong.specs.State.{Turned}
 
-pub shared-both : (E : ℕ → ℕ → Bool) (n x y : ℕ) → reached E n x y ≡ true → reached E n y x ≡ true → shared E n x y ≡ true
-unfolding shared
+pub shared-both : (E : ℕ → ℕ → Bool) (n x y : ℕ) → reached E n x y ≡ true → reached E n y x ≡ true → mutual E n x y ≡ true
+unfolding mutual
 shared-both E n x y p q = and-both (reached E n x y) (reached E n y x) p q
 
-pub shared-forth : (E : ℕ → ℕ → Bool) (n x y : ℕ) → shared E n x y ≡ true → reached E n x y ≡ true
-unfolding shared
+pub shared-forth : (E : ℕ → ℕ → Bool) (n x y : ℕ) → mutual E n x y ≡ true → reached E n x y ≡ true
+unfolding mutual
 shared-forth E n x y e = and-left (reached E n x y) (reached E n y x) e
 
-pub shared-back : (E : ℕ → ℕ → Bool) (n x y : ℕ) → shared E n x y ≡ true → reached E n y x ≡ true
-unfolding shared
+pub shared-back : (E : ℕ → ℕ → Bool) (n x y : ℕ) → mutual E n x y ≡ true → reached E n y x ≡ true
+unfolding mutual
 shared-back E n x y e = and-right (reached E n x y) (reached E n y x) e
 
 reached-trans : (E : ℕ → ℕ → Bool) (n x y z : ℕ) → x < n → y < n → reached E n x y ≡ true → reached E n y z ≡ true → reached E n x z ≡ true
 reached-trans E n x y z lx ly p q = bfs-complete E n x lx z (reach-trans (bfs-sound E n x lx y p) (bfs-sound E n y ly z q))
 
-pub shared-parts : (E : ℕ → ℕ → Bool) (n : ℕ) → Equivalence (shared E n) n
+pub shared-parts : (E : ℕ → ℕ → Bool) (n : ℕ) → Equivalence (mutual E n) n
 shared-parts E n = record {
   alike = λ v l. let h = bfs-complete E n v l v here in shared-both E n v v h h;
   meet = λ a b v la lb lv p q.

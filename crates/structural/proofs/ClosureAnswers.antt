@@ -29,7 +29,7 @@ use Rattle.traversal.specs.Traversal.{reachable}
 use Rattle.traversal.proofs.Walks.{reachable-walk, walk-reachable}
 use Rattle.components.specs.Classes.{reached, upTo}
 use Rattle.components.proofs.Blocks.{flat-map, blocks-ext}
-use Rattle.closure.specs.Pairs.{apart, others, rowWords, pairsWords}
+use Rattle.closure.specs.Pairs.{apart, secondsOf, rowWords, pairsWords}
 use Rattle.closure.specs.State.{Closure}
 use Rattle.closure.proofs.Closing.{closure-matrix}
 use Rattle.closure.proofs.Pairs.{pairs-ext}
@@ -74,7 +74,7 @@ module _ {ws : List ℕ} (f : Formed limit ws) where
   row-numbers x l =
       let g : ℕ → ℕ = numberOf (read limit ws) in
       let P : ℕ → ℕ → Bool = reached (stepsBetween (read limit ws)) (vertexCount ws) in
-      sym (flat-map (pairOf (g x)) g (others P (vertexCount ws) x))
+      sym (flat-map (pairOf (g x)) g (secondsOf P (vertexCount ws) x))
       ∙ ap (flat (pairOf (g x))) (filter-tab (reachesOther (read limit ws) (g x)) (apart P x) g (vertexCount ws) (λ k h. other-number x k l h)
       ∙ ap (filter (reachesOther (read limit ws) (g x))) (sym (map-tab g (λ i. i) (vertexCount ws)) ∙ live-numbers ws))
 

@@ -17,7 +17,7 @@ use Rattle.layout.specs.WellFormed.{Formed}
 use Rattle.layout.specs.Steps.{hasStep}
 use Rattle.layout.proofs.Read.{live-length}
 use Rattle.graph.proofs.Bfs.{bfs-sound, bfs-complete}
-use Rattle.steps.specs.Matrices.{linked, numberOf, stepsBetween, linksBetween}
+use Rattle.steps.specs.Matrices.{undirected, numberOf, stepsBetween, undirectedBetween}
 use Rattle.steps.proofs.Among.{steps-among, links-among, together-swap}
 use Rattle.steps.proofs.Records.{numbers-rise, record-once, record-of, reach-numbers, reach-records}
 use Rattle.steps.proofs.Together.{reach-swap, reach-together, reach-linked}
@@ -105,30 +105,30 @@ module _ {ws : List ℕ} (f : Formed limit ws) where
       bfs-complete (stepsBetween (read limit ws)) (vertexCount ws) i li j
       (reach-records f (hasStep (read limit ws)) (steps-among (read limit ws) (f .content)) (stepsBetween (read limit ws)) (λ _ _ _ _. refl) i j li lj w)
 
-  links-there : (i j : ℕ) → i < vertexCount ws → reached (linksBetween (read limit ws)) (vertexCount ws) i j ≡ true → Linked (read limit ws) (numberOf (read limit ws) i) (numberOf (read limit ws) j)
+  links-there : (i j : ℕ) → i < vertexCount ws → reached (undirectedBetween (read limit ws)) (vertexCount ws) i j ≡ true → Linked (read limit ws) (numberOf (read limit ws) i) (numberOf (read limit ws) j)
   links-there i j l e =
       reach-together (read limit ws)
-      (reach-numbers f (linked (read limit ws)) (links-among (read limit ws) (f .content)) (linksBetween (read limit ws)) (λ _ _ _ _. refl) (bfs-sound (linksBetween (read limit ws)) (vertexCount ws) i l j e))
+      (reach-numbers f (undirected (read limit ws)) (links-among (read limit ws) (f .content)) (undirectedBetween (read limit ws)) (λ _ _ _ _. refl) (bfs-sound (undirectedBetween (read limit ws)) (vertexCount ws) i l j e))
 
-  links-back : (i j : ℕ) → i < vertexCount ws → j < vertexCount ws → Linked (read limit ws) (numberOf (read limit ws) i) (numberOf (read limit ws) j) → reached (linksBetween (read limit ws)) (vertexCount ws) i j ≡ true
+  links-back : (i j : ℕ) → i < vertexCount ws → j < vertexCount ws → Linked (read limit ws) (numberOf (read limit ws) i) (numberOf (read limit ws) j) → reached (undirectedBetween (read limit ws)) (vertexCount ws) i j ≡ true
   links-back i j li lj w =
-      bfs-complete (linksBetween (read limit ws)) (vertexCount ws) i li j
-      (reach-records f (linked (read limit ws)) (links-among (read limit ws) (f .content)) (linksBetween (read limit ws)) (λ _ _ _ _. refl) i j li lj (reach-linked (read limit ws) w))
+      bfs-complete (undirectedBetween (read limit ws)) (vertexCount ws) i li j
+      (reach-records f (undirected (read limit ws)) (links-among (read limit ws) (f .content)) (undirectedBetween (read limit ws)) (λ _ _ _ _. refl) i j li lj (reach-linked (read limit ws) w))
 
-  links-symmetric : Symmetric (linksBetween (read limit ws)) (vertexCount ws)
-  unfolding linked
+  links-symmetric : Symmetric (undirectedBetween (read limit ws)) (vertexCount ws)
+  unfolding undirected
   links-symmetric i j li lj =
       let t = read limit ws in
       or-comm (hasStep t (numberOf t i) (numberOf t j)) (hasStep t (numberOf t j) (numberOf t i))
 
   -- ---- theorems
 
-  -- two vertices are in one connected component exactly where they are linked
+  -- two vertices are in one connected component exactly where they are undirected
   pub connected-components : Components (Linked (read limit ws)) (liveVertices (read limit ws)) (connectedComponents (read limit ws))
   unfolding connectedComponents classes
   connected-components =
       rw (live-length limit ws)
-      (components-numbers f (reached-parts (linksBetween (read limit ws)) (vertexCount ws) links-symmetric) (upTo (vertexCount ws)) (upto-below (vertexCount ws)) (upto-memb (vertexCount ws)) (Linked (read limit ws))
+      (components-numbers f (reached-parts (undirectedBetween (read limit ws)) (vertexCount ws) links-symmetric) (upTo (vertexCount ws)) (upto-below (vertexCount ws)) (upto-memb (vertexCount ws)) (Linked (read limit ws))
       (λ i j li _ e. links-there i j li e) links-back)
 
   -- two vertices are in one strong component exactly where each is reached from the other
@@ -142,17 +142,17 @@ module _ {ws : List ℕ} (f : Formed limit ws) where
       (λ i j li lj e. record { forth = steps-there i j li (shared-forth E n i j e); back = steps-there j i lj (shared-back E n i j e) })
       (λ i j li lj m. shared-both E n i j (steps-back i j li lj (m .forth)) (steps-back j i lj li (m .back))))
 
-  -- connected: all live vertices are linked
+  -- connected: all live vertices are undirected
   pub connected-linked : connected (read limit ws) ≡ true → (x y : ℕ) → isLive (liveVertices (read limit ws)) x ≡ true → isLive (liveVertices (read limit ws)) y ≡ true → Linked (read limit ws) x y
   unfolding connected
   connected-linked e x y lx ly =
       let n : ℕ = vertexCount ws in
       let i = record-of ws x lx in
       let j = record-of ws y ly in
-      let h : every (reached (linksBetween (read limit ws)) n 0) n ≡ true = rw (live-length limit ws) at e in
+      let h : every (reached (undirectedBetween (read limit ws)) n 0) n ≡ true = rw (live-length limit ws) at e in
       let z : 0 < n = omega (arith, i .1) in
-      let a : Linked (read limit ws) (numberOf (read limit ws) 0) (numberOf (read limit ws) (i .0)) = links-there 0 (i .0) z (every-at (reached (linksBetween (read limit ws)) n 0) n (i .0) h (i .1)) in
-      let b : Linked (read limit ws) (numberOf (read limit ws) 0) (numberOf (read limit ws) (j .0)) = links-there 0 (j .0) z (every-at (reached (linksBetween (read limit ws)) n 0) n (j .0) h (j .1)) in
+      let a : Linked (read limit ws) (numberOf (read limit ws) 0) (numberOf (read limit ws) (i .0)) = links-there 0 (i .0) z (every-at (reached (undirectedBetween (read limit ws)) n 0) n (i .0) h (i .1)) in
+      let b : Linked (read limit ws) (numberOf (read limit ws) 0) (numberOf (read limit ws) (j .0)) = links-there 0 (j .0) z (every-at (reached (undirectedBetween (read limit ws)) n 0) n (j .0) h (j .1)) in
       subst (λ (k : ℕ). Linked (read limit ws) k y) (i .2) (subst (λ (k : ℕ). Linked (read limit ws) (numberOf (read limit ws) (i .0)) k) (j .2)
       (reach-trans (reach-swap (together-swap (read limit ws)) a) b))
 
@@ -161,5 +161,5 @@ module _ {ws : List ℕ} (f : Formed limit ws) where
   linked-connected h =
       let n : ℕ = vertexCount ws in
       rw (live-length limit ws)
-      (every-of (reached (linksBetween (read limit ws)) n 0) n
+      (every-of (reached (undirectedBetween (read limit ws)) n 0) n
       (λ v l. let z : 0 < n = omega arith in links-back 0 v z l (h (numberOf (read limit ws) 0) (numberOf (read limit ws) v) (record-live ws 0 z) (record-live ws v l))))

@@ -18,7 +18,7 @@ use Rattle.layout.proofs.Read.{live-length}
 use Rattle.graph.specs.Reach.{matrix}
 use Rattle.graph.specs.Bfs.{bfs}
 use Rattle.graph.specs.Held.{Marks}
-use Rattle.steps.specs.Matrices.{linked, numberOf, stepsBetween, turnedBetween, linksBetween, Holds}
+use Rattle.steps.specs.Matrices.{undirected, numberOf, stepsBetween, turnedBetween, undirectedBetween, Holds}
 use Rattle.steps.proofs.Holds.{holds-matrix}
 use Rattle.traversal.proofs.Ext.{bfs-ext}
 use Rattle.components.specs.Classes.{reached, classes, upTo}
@@ -27,7 +27,7 @@ use Rattle.components.proofs.Roots.{classes-ext}
 use Rattle.components.proofs.Linked.{upto-below}
 use Rattle.components.proofs.Parts.{flags-reached}
 use Rattle.components.proofs.Blocks.{partition-words}
-use Rattle.strong.specs.Strong.{shared, latestFirst, strong}
+use Rattle.strong.specs.Strong.{mutual, latestFirst, strong}
 use Rattle.strong.specs.State.{Turned}
 use Rattle.strong.proofs.Ext.{strong-ext}
 use Rattle.structural.specs.Components.{connected, connectedComponents, strongComponents, connectedResult, connectedComponentsResult, strongComponentsResult}
@@ -51,8 +51,8 @@ module _ (marks : List ℕ) (v : ℕ) where
 -- ---- records: n is what `vertex_count` found, m and back what the matrices' functions made
 
 module _ {ws : List ℕ} (f : Formed limit ws) where
-  pub link-symmetric : {m : List ℕ} → Holds (linksBetween (read limit ws)) (vertexCount ws) m → (n : ℕ) → n ≡ vertexCount ws → Symmetric (matrix m) n
-  unfolding linked
+  pub link-symmetric : {m : List ℕ} → Holds (undirectedBetween (read limit ws)) (vertexCount ws) m → (n : ℕ) → n ≡ vertexCount ws → Symmetric (matrix m) n
+  unfolding undirected
   link-symmetric {m} w n e i j li lj =
       let t = read limit ws in
       let hi : i < vertexCount ws = rw e at li in
@@ -76,11 +76,11 @@ module _ {ws : List ℕ} (f : Formed limit ws) where
   unfolding connectedResult connected every
   connected-none n e z = rw (live-length limit ws, ← e, z)
 
-  pub connected-all : {m : List ℕ} → Holds (linksBetween (read limit ws)) (vertexCount ws) m → (n : ℕ) → n ≡ vertexCount ws → (n ≡ 0 → ⊥) → (marks : List ℕ) → Marks n marks (bfs (matrix m) n 0)
+  pub connected-all : {m : List ℕ} → Holds (undirectedBetween (read limit ws)) (vertexCount ws) m → (n : ℕ) → n ≡ vertexCount ws → (n ≡ 0 → ⊥) → (marks : List ℕ) → Marks n marks (bfs (matrix m) n 0)
       → (r : ℕ) → r ≡ bit (every (flagged marks) n) → result (Done r) [] ≡ connectedResult (read limit ws)
   unfolding connectedResult connected
   connected-all {m} w n e z marks h r q =
-      let E : ℕ → ℕ → Bool = linksBetween (read limit ws) in
+      let E : ℕ → ℕ → Bool = undirectedBetween (read limit ws) in
       let k : Marks (vertexCount ws) marks (bfs (matrix m) (vertexCount ws) 0) = rw e at h in
       let same : every (flagged marks) (vertexCount ws) ≡ every (reached E (vertexCount ws) 0) (vertexCount ws) =
       every-ext (flagged marks) (reached E (vertexCount ws) 0) (vertexCount ws) (λ v l. flags-reached (matrix m) (vertexCount ws) 0 marks k v l ∙ reached-ext E w 0 v (omega arith)) in
@@ -88,23 +88,23 @@ module _ {ws : List ℕ} (f : Formed limit ws) where
 
   -- ---- components: r is what `list_classes` gives
 
-  pub linked-listed : {m : List ℕ} → Holds (linksBetween (read limit ws)) (vertexCount ws) m → (n : ℕ) → n ≡ vertexCount ws → (ids : List ℕ) (c : ℕ) → Partition (reached (matrix m) n) n (upTo n) ids c
+  pub linked-listed : {m : List ℕ} → Holds (undirectedBetween (read limit ws)) (vertexCount ws) m → (n : ℕ) → n ≡ vertexCount ws → (ids : List ℕ) (c : ℕ) → Partition (reached (matrix m) n) n (upTo n) ids c
       → (lent : List ℕ) (r : Result) → r ≡ listed (partWords (numberOf (read limit ws)) ids n c) lent → r ≡ connectedComponentsResult lent (read limit ws)
   unfolding connectedComponentsResult connectedComponents
   linked-listed {m} w n e ids c h lent r q =
       let N : ℕ = vertexCount ws in
-      let E : ℕ → ℕ → Bool = linksBetween (read limit ws) in
+      let E : ℕ → ℕ → Bool = undirectedBetween (read limit ws) in
       let g : Partition (reached (matrix m) N) N (upTo N) ids c = rw e at h in
       let same : classes (reached (matrix m) N) N (upTo N) ≡ classes (reached E N) N (upTo N) =
       classes-ext (reached (matrix m) N) (reached E N) N (λ x y l _. reached-ext E w x y l) (upTo N) (upto-below N) in
       q ∙ rw (e, live-length limit ws) (ap (λ (x : List ℕ). listed x lent) (partition-words (numberOf (read limit ws)) g ∙ ap (λ (x : List (List ℕ)). flat counted (map (map (numberOf (read limit ws))) x)) same))
 
-  pub strong-listed : {m : List ℕ} → Holds (stepsBetween (read limit ws)) (vertexCount ws) m → (n : ℕ) → n ≡ vertexCount ws → (ids : List ℕ) (c : ℕ) → Partition (shared (matrix m) n) n (latestFirst (matrix m) n) ids c
+  pub strong-listed : {m : List ℕ} → Holds (stepsBetween (read limit ws)) (vertexCount ws) m → (n : ℕ) → n ≡ vertexCount ws → (ids : List ℕ) (c : ℕ) → Partition (mutual (matrix m) n) n (latestFirst (matrix m) n) ids c
       → (lent : List ℕ) (r : Result) → r ≡ listed (partWords (numberOf (read limit ws)) ids n c) lent → r ≡ strongComponentsResult lent (read limit ws)
   unfolding strongComponentsResult strongComponents
   strong-listed {m} w n e ids c h lent r q =
       let N : ℕ = vertexCount ws in
       let E : ℕ → ℕ → Bool = stepsBetween (read limit ws) in
-      let g : Partition (shared (matrix m) N) N (latestFirst (matrix m) N) ids c = rw e at h in
+      let g : Partition (mutual (matrix m) N) N (latestFirst (matrix m) N) ids c = rw e at h in
       let same : strong (matrix m) N ≡ strong E N = strong-ext (matrix m) E N (holds-matrix w (f .shape .vertices-le)) (f .shape .vertices-le) (λ x y l _. reached-ext E w x y l) in
       q ∙ rw (e, live-length limit ws) (ap (λ (x : List ℕ). listed x lent) (partition-words (numberOf (read limit ws)) g ∙ ap (λ (x : List (List ℕ)). flat counted (map (map (numberOf (read limit ws))) x)) same))

@@ -11,7 +11,7 @@ use Rattle.layout.specs.declared.Answer.the-variants.{Done}
 use Rattle.layout.specs.Content.{Table, liveVertices, isLive}
 use Rattle.layout.specs.Steps.{StepIn}
 use Rattle.layout.specs.Answers.{Result, result, listed}
-use Rattle.steps.specs.Matrices.{TogetherIn, numberOf, stepsBetween, linksBetween}
+use Rattle.steps.specs.Matrices.{TogetherIn, numberOf, stepsBetween, undirectedBetween}
 use Rattle.components.specs.Classes.{reached, classes, upTo}
 use Rattle.strong.specs.Strong.{strong}
 
@@ -41,11 +41,11 @@ liveCount t = length (liveVertices t)
 
 -- connected when the table is empty, or all vertices are linked: every record is reached from the first, whatever the steps' direction
 unfoldable pub connected : Table → Bool
-connected t = every (reached (linksBetween t) (liveCount t) 0) (liveCount t)
+connected t = every (reached (undirectedBetween t) (liveCount t) 0) (liveCount t)
 
 -- connected components ignore step direction; a component for each record that is in none before it, ascending
 unfoldable pub connectedComponents : Table → List (List ℕ)
-connectedComponents t = map (map (numberOf t)) (classes (reached (linksBetween t) (liveCount t)) (liveCount t) (upTo (liveCount t)))
+connectedComponents t = map (map (numberOf t)) (classes (reached (undirectedBetween t) (liveCount t)) (liveCount t) (upTo (liveCount t)))
 
 -- strong components: latest-finished vertex first
 unfoldable pub strongComponents : Table → List (List ℕ)

@@ -13,7 +13,7 @@ use Rattle.lists.proofs.Memb.{memb-getD, below-memb, below-snoc}
 use Rattle.graph.specs.Bfs.{push, spread, run, bfs}
 use Rattle.graph.proofs.Bfs.{spread-keeps}
 use Rattle.depth.specs.Dfs.{Progress, tried}
-use Rattle.depth.specs.Finish.{blank}
+use Rattle.depth.specs.Finish.{untouched}
 use Rattle.depth.specs.Pre.{enter, climbs, walks, preorder}
 use Rattle.depth.proofs.Dfs.{tried-ext}
 
@@ -53,4 +53,4 @@ module _ (E F : ℕ → ℕ → Bool) (n : ℕ) (h : (i j : ℕ) → i < n → j
 
   pub preorder-ext : (s : ℕ) → s < n → preorder E n s ≡ preorder F n s
   unfolding preorder
-  preorder-ext s l = ap (λ (t : Progress). t .out) (walks-ext n s blank l)
+  preorder-ext s l = ap (λ (t : Progress). t .out) (walks-ext n s untouched l)

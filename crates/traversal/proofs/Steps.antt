@@ -13,7 +13,7 @@ use Rattle.layout.specs.Layout.{limit, vertexCount, read}
 use Rattle.layout.specs.WellFormed.{Formed}
 use Rattle.layout.specs.Steps.{hasStep, StepIn}
 use Rattle.graph.specs.Reach.{Edge}
-use Rattle.graph.specs.Walk.{Walk, start, onward, Least}
+use Rattle.graph.specs.Walk.{ReachIn, start, onward, Least}
 use Rattle.graph.proofs.Levels.{bfs-by-steps}
 use Rattle.steps.specs.Matrices.{numberOf, stepsBetween}
 use Rattle.steps.proofs.Among.{steps-among}
@@ -29,13 +29,13 @@ map-at f (x ∷ l) (suc i) h = map-at f l i (le-of-suc-le-suc h)
 
 module _ {ws : List ℕ} (f : Formed limit ws) where
   -- a walk between records is one between their numbers, of as many steps, and back
-  walk-numbers : {i k j : ℕ} → Walk (Edge (stepsBetween (read limit ws)) (vertexCount ws)) i k j → Walk (StepIn (read limit ws)) (numberOf (read limit ws) i) k (numberOf (read limit ws) j)
+  walk-numbers : {i k j : ℕ} → ReachIn (Edge (stepsBetween (read limit ws)) (vertexCount ws)) i k j → ReachIn (StepIn (read limit ws)) (numberOf (read limit ws) i) k (numberOf (read limit ws) j)
   walk-numbers start = start
   walk-numbers (onward w e) = onward (walk-numbers w) (e .2)
 
-  walk-records : {x k y : ℕ} → Walk (StepIn (read limit ws)) x k y → (i j : ℕ) → i < vertexCount ws → j < vertexCount ws → numberOf (read limit ws) i ≡ x → numberOf (read limit ws) j ≡ y
-      → Walk (Edge (stepsBetween (read limit ws)) (vertexCount ws)) i k j
-  walk-records start i j hi hj ei ej = subst (λ (z : ℕ). Walk (Edge (stepsBetween (read limit ws)) (vertexCount ws)) i zero z) (record-once f i j hi hj (ei ∙ sym ej)) start
+  walk-records : {x k y : ℕ} → ReachIn (StepIn (read limit ws)) x k y → (i j : ℕ) → i < vertexCount ws → j < vertexCount ws → numberOf (read limit ws) i ≡ x → numberOf (read limit ws) j ≡ y
+      → ReachIn (Edge (stepsBetween (read limit ws)) (vertexCount ws)) i k j
+  walk-records start i j hi hj ei ej = subst (λ (z : ℕ). ReachIn (Edge (stepsBetween (read limit ws)) (vertexCount ws)) i zero z) (record-once f i j hi hj (ei ∙ sym ej)) start
   walk-records (onward {y = u} {z = v} w e) i j hi hj ei ej =
       let r = record-of ws u (steps-among (read limit ws) (f .content) u v e .0) in
       onward (walk-records w i (r .0) hi (r .1) ei (r .2)) (r .1, hj, ap₂ (hasStep (read limit ws)) (r .2) ej ∙ e)
@@ -55,7 +55,7 @@ module _ {ws : List ℕ} (f : Formed limit ws) where
       let low : getD R j 0 < vertexCount ws = walks.records-below f x l BreadthFirst (getD R j 0) (memb-getD R j c) in
       let w = walk-records (q .walk) (s .0) (getD R j 0) (s .1) low (s .2) (sym (at j c)) in
       let u = bfs-by-steps (stepsBetween (read limit ws)) (vertexCount ws) (s .0) (s .1) w i j (omega arith) c refl in
-      let n : Walk (StepIn (read limit ws)) x (u .0) (getD (traversal BreadthFirst (read limit ws) x) i 0) =
-      subst (λ (z : ℕ). Walk (StepIn (read limit ws)) x (u .0) z) (sym (at i (omega arith)))
-      (subst (λ (z : ℕ). Walk (StepIn (read limit ws)) z (u .0) (numberOf (read limit ws) (getD R i 0))) (s .2) (walk-numbers (u .2))) in
+      let n : ReachIn (StepIn (read limit ws)) x (u .0) (getD (traversal BreadthFirst (read limit ws) x) i 0) =
+      subst (λ (z : ℕ). ReachIn (StepIn (read limit ws)) x (u .0) z) (sym (at i (omega arith)))
+      (subst (λ (z : ℕ). ReachIn (StepIn (read limit ws)) z (u .0) (numberOf (read limit ws) (getD R i 0))) (s .2) (walk-numbers (u .2))) in
       omega (arith, p .fewest (u .0) n, u .1)

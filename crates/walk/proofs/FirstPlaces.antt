@@ -16,7 +16,7 @@ use Rattle.layout.specs.Layout.{limit, vertexLimit, hyperedgeCount, membersAt}
 use Rattle.layout.specs.WellFormed.{Formed}
 use Rattle.layout.proofs.Read.{members-le}
 use Rattle.steps.specs.Matrices.{cell}
-use Rattle.walk.specs.Passes.{isFirst, Judged, Firsts}
+use Rattle.walk.specs.Passes.{isFirst, FirstsMarked, Firsts}
 
 -- ---- a loop over a list that looks for v: found says whether v is among the first i
 
@@ -36,7 +36,7 @@ first-is ms p x r e q = rw (q, e)
 
 -- ---- the marks
 
-pub judged-none : (ws : List ℕ) → Judged ws 0 0 (replicate (vertexLimit * vertexLimit) false)
+pub judged-none : (ws : List ℕ) → FirstsMarked ws 0 0 (replicate (vertexLimit * vertexLimit) false)
 judged-none ws = record {
   sized = length-replicate {A = Bool} (vertexLimit * vertexLimit) false;
   before = λ j q h l. absurd (not-suc-le-zero h);
@@ -44,9 +44,9 @@ judged-none ws = record {
 }
 
 -- b says whether place p of record k is a first place
-pub judged-more : (ws : List ℕ) → Formed limit ws → (k p : ℕ) {firsts : List Bool} → Judged ws k p firsts → k < hyperedgeCount ws
-    → (ms : List ℕ) → ms ≡ membersAt limit ws k → p < length ms → (b : Bool) → b ≡ isFirst ms p → (next : List Bool) → next ≡ set firsts (cell k p) b → Judged ws k (p + 1) next
-judged-more ws f k p {firsts} inv lk ms em h b eb next e = subst (Judged ws k (p + 1)) (sym e) more
+pub judged-more : (ws : List ℕ) → Formed limit ws → (k p : ℕ) {firsts : List Bool} → FirstsMarked ws k p firsts → k < hyperedgeCount ws
+    → (ms : List ℕ) → ms ≡ membersAt limit ws k → p < length ms → (b : Bool) → b ≡ isFirst ms p → (next : List Bool) → next ≡ set firsts (cell k p) b → FirstsMarked ws k (p + 1) next
+judged-more ws f k p {firsts} inv lk ms em h b eb next e = subst (FirstsMarked ws k (p + 1)) (sym e) more
   where
     few : (j q : ℕ) → j < hyperedgeCount ws → q < length (membersAt limit ws j) → q < vertexLimit
     few j q lj lq = omega (arith, members-le limit ws f j lj)
@@ -54,7 +54,7 @@ judged-more ws f k p {firsts} inv lk ms em h b eb next e = subst (Judged ws k (p
     lp : p < vertexLimit
     lp = few k p lk (subst (λ (xs : List ℕ). p < length xs) em h)
 
-    more : Judged ws k (p + 1) (set firsts (cell k p) b)
+    more : FirstsMarked ws k (p + 1) (set firsts (cell k p) b)
     more = record {
       sized = length-set firsts (cell k p) b ∙ inv .sized;
       before = λ j q lj lq.
@@ -66,7 +66,7 @@ judged-more ws f k p {firsts} inv lk ms em h b eb next e = subst (Judged ws k (p
           (getD-set-same firsts (cell k p) b false (omega (arith, lp, inv .sized, f .shape .hyperedges-le)) ∙ eb ∙ ap (λ (xs : List ℕ). isFirst xs p) em);
     }
 
-pub judged-next : (ws : List ℕ) (k p : ℕ) {firsts : List Bool} → Judged ws k p firsts → (ms : List ℕ) → ms ≡ membersAt limit ws k → length ms ≤ p → Judged ws (k + 1) 0 firsts
+pub judged-next : (ws : List ℕ) (k p : ℕ) {firsts : List Bool} → FirstsMarked ws k p firsts → (ms : List ℕ) → ms ≡ membersAt limit ws k → length ms ≤ p → FirstsMarked ws (k + 1) 0 firsts
 judged-next ws k p {firsts} inv ms em h = record { sized = inv .sized; before = before; here = λ q l. absurd (not-suc-le-zero l) }
   where
     before : (j q : ℕ) → j < k + 1 → q < length (membersAt limit ws j) → getD firsts (cell j q) false ≡ isFirst (membersAt limit ws j) q
@@ -76,8 +76,8 @@ judged-next ws k p {firsts} inv ms em h = record { sized = inv .sized; before = 
         (λ l. let e : j ≡ k = omega arith in
         rw e (inv .here q (omega (arith, h, ap length em, ap (λ (i : ℕ). length (membersAt limit ws i)) e))))
 
-pub judged-all : (ws : List ℕ) (j k : ℕ) → k ≡ hyperedgeCount ws → j ≤ k → k ≤ j → {firsts : List Bool} → Judged ws j 0 firsts → Firsts ws firsts
-judged-all ws j k e a b {firsts} w = let q : j ≡ hyperedgeCount ws = omega arith in subst (λ (z : ℕ). Judged ws z 0 firsts) q w
+pub judged-all : (ws : List ℕ) (j k : ℕ) → k ≡ hyperedgeCount ws → j ≤ k → k ≤ j → {firsts : List Bool} → FirstsMarked ws j 0 firsts → Firsts ws firsts
+judged-all ws j k e a b {firsts} w = let q : j ≡ hyperedgeCount ws = omega arith in subst (λ (z : ℕ). FirstsMarked ws z 0 firsts) q w
 
 -- what the code reads: the mark of place p of record j
 pub first-mark : (ws : List ℕ) {firsts : List Bool} → Firsts ws firsts → (j p : ℕ) (ms : List ℕ) → ms ≡ membersAt limit ws j → j < hyperedgeCount ws → p < length ms

@@ -18,7 +18,7 @@ use Rattle.layout.specs.WellFormed.{Formed}
 use Rattle.layout.proofs.Read.{members-le}
 use Rattle.steps.specs.Matrices.{cell}
 use Rattle.lists.proofs.Cases.{not-none}
-use Rattle.walk.specs.Walk.{isFirstOther, memberAt, others, walker, xorshift, toOneOf}
+use Rattle.walk.specs.Walk.{isFirstOther, memberAt, otherMembers, walker, xorshift, toOneOf}
 use Rattle.walk.specs.Passes.{isFirst, Firsts}
 use Rattle.walk.proofs.FirstPlaces.{first-mark}
 
@@ -37,11 +37,11 @@ other-first ms v i n ws j w em lj li = first-mark ws w j i ms em lj li ∙ rw (n
 
 -- ---- their number
 
-others-count : (v : ℕ) (ms : List ℕ) → length (others v ms) ≡ count (isFirstOther v ms) (length ms)
-unfolding others
+others-count : (v : ℕ) (ms : List ℕ) → length (otherMembers v ms) ≡ count (isFirstOther v ms) (length ms)
+unfolding otherMembers
 others-count v ms = map-length (memberAt ms) (chosen (isFirstOther v ms) (length ms)) ∙ chosen-count (isFirstOther v ms) (length ms)
 
-counted-all : (v : ℕ) (ms : List ℕ) (c i : ℕ) → c ≡ count (isFirstOther v ms) i → i ≤ length ms → length ms ≤ i → c ≡ length (others v ms)
+counted-all : (v : ℕ) (ms : List ℕ) (c i : ℕ) → c ≡ count (isFirstOther v ms) i → i ≤ length ms → length ms ≤ i → c ≡ length (otherMembers v ms)
 counted-all v ms c i inv a b = inv ∙ ap (count (isFirstOther v ms)) (le-antisymm a b) ∙ sym (others-count v ms)
 
 -- ---- the loop that lists them: the first c places of found are those before place i
@@ -100,12 +100,12 @@ module _ (v : ℕ) (ms found : List ℕ) (c i : ℕ) (inv : Picked v ms found c 
 
   -- they are the members ks
   module _ (h : length ms ≤ i) (ks : List ℕ) (e : ms ≡ ks) where
-    pub picked-all : take c found ≡ others v ks
-    unfolding others
-    picked-all = inv .taken ∙ ap (λ (k : ℕ). map (memberAt ms) (chosen (isFirstOther v ms) k)) (le-antisymm (inv .within) h) ∙ ap (others v) e
+    pub picked-all : take c found ≡ otherMembers v ks
+    unfolding otherMembers
+    picked-all = inv .taken ∙ ap (λ (k : ℕ). map (memberAt ms) (chosen (isFirstOther v ms) k)) (le-antisymm (inv .within) h) ∙ ap (otherMembers v) e
 
-    pub picked-many : c ≡ length (others v ks)
-    picked-many = counted-all v ms c i (inv .counted) (inv .within) h ∙ ap (λ (l : List ℕ). length (others v l)) e
+    pub picked-many : c ≡ length (otherMembers v ks)
+    picked-many = counted-all v ms c i (inv .counted) (inv .within) h ∙ ap (λ (l : List ℕ). length (otherMembers v l)) e
 
 -- ---- the pick: n is their number
 
@@ -130,7 +130,7 @@ module _ (v state : ℕ) where
         let l : k < n = rw m (mod-lt draw (not-none n q)) in
         rw (g, ← getD-take n found k 0 l, t, m, d, e) (some-left os (λ z. q (e ∙ z)))
 
-pub picked-below : (ws : List ℕ) → Formed limit ws → (v j : ℕ) → j < hyperedgeCount ws → (n : ℕ) → n ≡ length (others v (membersAt limit ws j)) → (n ≡ 0 → ⊥)
+pub picked-below : (ws : List ℕ) → Formed limit ws → (v j : ℕ) → j < hyperedgeCount ws → (n : ℕ) → n ≡ length (otherMembers v (membersAt limit ws j)) → (n ≡ 0 → ⊥)
     → (draw : ℕ) → draw % n < vertexLimit
 picked-below ws f v j h n e q draw =
     omega (arith, mod-lt draw (not-none n q), e, others-count v (membersAt limit ws j), count-le (isFirstOther v (membersAt limit ws j)) (length (membersAt limit ws j)), members-le limit ws f j h)

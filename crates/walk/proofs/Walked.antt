@@ -24,8 +24,8 @@ use Rattle.layout.proofs.Read.{vertex-found}
 use Rattle.layout.proofs.Answers.{on-missing, on-found, listed-over, listed-fits}
 use Rattle.steps.specs.Matrices.{numberOf}
 use Rattle.walk.specs.declared.Walker.{Walker}
-use Rattle.walk.specs.Walk.{xorshift, sample, totalWeight, lastOf, firstGreater, others, toOneOf, walker, moveAlong, move, walkFrom, stepLimit, cut, firstState, walk, walkResult}
-use Rattle.walk.specs.Passes.{listersOf, recordsAt, Drawn}
+use Rattle.walk.specs.Walk.{xorshift, sample, totalWeight, lastOf, firstGreater, otherMembers, toOneOf, walker, moveAlong, move, walkFrom, stepLimit, cut, firstState, walk, walkResult}
+use Rattle.walk.specs.Passes.{listersOf, recordsAt, TakenBy}
 use Rattle.walk.proofs.Listing.{hyperedges-are}
 
 -- ---- a move
@@ -37,7 +37,7 @@ last-at f j (k ∷ js) = last-at f k js
 
 -- along the records at the places js, of which there is one
 along : (ws : List ℕ) (w : Walker) (js : List ℕ) → (length js ≡ 0 → ⊥) → moveAlong w (recordsAt ws js)
-    ≡ toOneOf (w .at) (xorshift (w .state)) (others (w .at) (firstGreater (sample (xorshift (w .state)) (totalWeight (recordsAt ws js))) (hyperedgeAt limit ws (getD js (length js - 1) 0)) 0 (recordsAt ws js) .members))
+    ≡ toOneOf (w .at) (xorshift (w .state)) (otherMembers (w .at) (firstGreater (sample (xorshift (w .state)) (totalWeight (recordsAt ws js))) (hyperedgeAt limit ws (getD js (length js - 1) 0)) 0 (recordsAt ws js) .members))
 unfolding moveAlong
 along ws w [] h = absurd (h refl)
 along ws w (j ∷ js) h =
@@ -69,8 +69,8 @@ module _ (ws : List ℕ) (w : Walker) (i : ℕ) (p : position (w .at) (liveVerti
         none [] z = nowhere w
         none (j ∷ js) z = absurd (suc-ne-zero (length js) z)
 
-    pub move-one : (n ≡ 0 → ⊥) → (draw j : ℕ) → draw ≡ xorshift (w .state) → Drawn ws (listersOf ws i) draw j
-        → (r : Walker) → r ≡ toOneOf (w .at) draw (others (w .at) (membersAt limit ws j)) → r ≡ move (read limit ws) w
+    pub move-one : (n ≡ 0 → ⊥) → (draw j : ℕ) → draw ≡ xorshift (w .state) → TakenBy ws (listersOf ws i) draw j
+        → (r : Walker) → r ≡ toOneOf (w .at) draw (otherMembers (w .at) (membersAt limit ws j)) → r ≡ move (read limit ws) w
     move-one h draw j d g r q =
         q ∙ rw (ap (λ (e : Hyperedge). e .members) (g .taken), d) (sym (along ws w (listersOf ws i) (λ z. h (e ∙ z)))) ∙ along-here
 

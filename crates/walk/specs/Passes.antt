@@ -23,14 +23,14 @@ unfoldable pub isFirst : List ℕ → ℕ → Bool
 isFirst ms p = not (memb (getD ms p 0) (take p ms))
 
 -- the marks say which places are first ones: all places of the first k records, and the first p places of record k
-pub record Judged (ws : List ℕ) (k p : ℕ) (firsts : List Bool) : Type 0 where
+pub record FirstsMarked (ws : List ℕ) (k p : ℕ) (firsts : List Bool) : Type 0 where
   pub sized : length firsts ≡ vertexLimit * vertexLimit
   pub before : (j q : ℕ) → j < k → q < length (membersAt limit ws j) → getD firsts (cell j q) false ≡ isFirst (membersAt limit ws j) q
   pub here : (q : ℕ) → q < p → getD firsts (cell k q) false ≡ isFirst (membersAt limit ws k) q
 
 -- all places of all records are marked so
 abbrev pub Firsts : List ℕ → List Bool → Type 0
-Firsts ws firsts = Judged ws (hyperedgeCount ws) 0 firsts
+Firsts ws firsts = FirstsMarked ws (hyperedgeCount ws) 0 firsts
 
 -- ---- the records that list a vertex
 
@@ -67,7 +67,7 @@ abbrev pub listersOf : List ℕ → ℕ → List ℕ
 listersOf ws i = listers ws (hyperedgeCount ws) i
 
 -- what a walk goes by: the first places, and the rows of the records that list each vertex
-pub record Laid (ws : List ℕ) (firsts : List Bool) (rows counts : List ℕ) : Type 0 where
+pub record Prepared (ws : List ℕ) (firsts : List Bool) (rows counts : List ℕ) : Type 0 where
   pub first : Firsts ws firsts
   pub listed : Listers ws (hyperedgeCount ws) rows counts
 
@@ -83,5 +83,5 @@ pub record Greater (ws js : List ℕ) (x : Float) (j : ℕ) : Type 0 where
   pub taken : hyperedgeAt limit ws j ≡ firstGreater x (hyperedgeAt limit ws (getD js (length js - 1) 0)) 0 (recordsAt ws js)
 
 -- record j is what the draw takes of them
-abbrev pub Drawn : List ℕ → List ℕ → ℕ → ℕ → Type 0
-Drawn ws js draw j = Greater ws js (sample draw (totalWeight (recordsAt ws js))) j
+abbrev pub TakenBy : List ℕ → List ℕ → ℕ → ℕ → Type 0
+TakenBy ws js draw j = Greater ws js (sample draw (totalWeight (recordsAt ws js))) j

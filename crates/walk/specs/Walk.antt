@@ -64,8 +64,8 @@ abbrev pub memberAt : List ℕ → ℕ → ℕ
 memberAt ms i = getD ms i 0
 
 -- the distinct other members, in order of first place
-unfoldable pub others : ℕ → List ℕ → List ℕ
-others v ms = map (memberAt ms) (chosen (isFirstOther v ms) (length ms))
+unfoldable pub otherMembers : ℕ → List ℕ → List ℕ
+otherMembers v ms = map (memberAt ms) (chosen (isFirstOther v ms) (length ms))
 
 abbrev pub walker : ℕ → ℕ → Walker
 walker v state = record { at = v; state = state }
@@ -82,7 +82,7 @@ unfoldable pub moveAlong : Walker → List Hyperedge → Walker
 moveAlong w [] = w
 moveAlong w (e ∷ es) =
     toOneOf (w .at) (xorshift (w .state))
-    (others (w .at) (firstGreater (sample (xorshift (w .state)) (totalWeight (e ∷ es))) (lastOf e es) 0 (e ∷ es) .members))
+    (otherMembers (w .at) (firstGreater (sample (xorshift (w .state)) (totalWeight (e ∷ es))) (lastOf e es) 0 (e ∷ es) .members))
 
 unfoldable pub move : Table → Walker → Walker
 move t w = moveAlong w (hyperedgesOf t (w .at))

@@ -6,7 +6,7 @@ ghost use Rattle.lists.specs.Lists.{memb};
 ghost use Rattle.layout.specs.Layout.{limit, vertexLimit, hyperedgeCount};
 ghost use Rattle.layout.specs.WellFormed.{Formed};
 ghost use Rattle.steps.specs.Matrices.{cell};
-ghost use Rattle.walk.specs.Passes.{isFirst, Judged, Firsts};
+ghost use Rattle.walk.specs.Passes.{isFirst, FirstsMarked, Firsts};
 
 // Whether v stands in the list. No word is skipped, so that the compiler can take several at a time.
 fn lists_vertex(ms: &[u32], v: u32) -> bool
@@ -42,8 +42,8 @@ fn mark(j: usize, p: usize, first: bool, firsts: &mut [bool; 65536])
 // The places of record j.
 fn judge_record(t: &[u32], j: usize, firsts: &mut [bool; 65536])
     requires { ⌜ Formed limit (now t) ⌝ }
-    requires { ⌜ (j < hyperedgeCount (now t)) × Judged (now t) j 0 (now firsts) ⌝ }
-    ensures { λ _. ⌜ Judged (now (t .entry)) (j + 1) 0 (now (firsts .exit)) ⌝ }
+    requires { ⌜ (j < hyperedgeCount (now t)) × FirstsMarked (now t) j 0 (now firsts) ⌝ }
+    ensures { λ _. ⌜ FirstsMarked (now (t .entry)) (j + 1) 0 (now (firsts .exit)) ⌝ }
 {
     let ms = layout::members_formed(t, j);
     let mut p = 0;

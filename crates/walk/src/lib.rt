@@ -8,8 +8,8 @@ ghost use Rattle.layout.specs.Content.{liveVertices, position};
 ghost use Rattle.layout.specs.Layout.{limit, vertexLimit, vertexCount, hyperedgeCount, membersAt, read};
 ghost use Rattle.layout.specs.WellFormed.{Formed};
 ghost use Rattle.layout.specs.Answers.{result, listed, onFormed};
-ghost use Rattle.walk.specs.Walk.{xorshift, float, sample, totalWeight, isFirstOther, others, toOneOf, move, walkFrom, stepLimit, cut, firstState, walk, walkResult};
-ghost use Rattle.walk.specs.Passes.{largestWord, Firsts, Listers, Laid, listersOf, recordsAt, Greater, Drawn};
+ghost use Rattle.walk.specs.Walk.{xorshift, float, sample, totalWeight, isFirstOther, otherMembers, toOneOf, move, walkFrom, stepLimit, cut, firstState, walk, walkResult};
+ghost use Rattle.walk.specs.Passes.{largestWord, Firsts, Listers, Prepared, listersOf, recordsAt, Greater, TakenBy};
 
 mod firsts;
 mod membership;
@@ -143,7 +143,7 @@ fn is_first_other(t: &[u32], firsts: &[bool; 65536], j: usize, ms: &[u32], v: u3
 fn list_others(t: &[u32], firsts: &[bool; 65536], j: usize, v: u32, found: &mut [u32; 256]) -> usize
     requires { ⌜ Formed limit (now t) ⌝ }
     requires { ⌜ (j < hyperedgeCount (now t)) × (length (now found) ≡ vertexLimit) × Firsts (now t) (now firsts) ⌝ }
-    ensures { λ r. ⌜ (take r (now (found .exit)) ≡ others v (membersAt limit (now (t .entry)) j)) × (r ≡ length (others v (membersAt limit (now (t .entry)) j))) ⌝ }
+    ensures { λ r. ⌜ (take r (now (found .exit)) ≡ otherMembers v (membersAt limit (now (t .entry)) j)) × (r ≡ length (otherMembers v (membersAt limit (now (t .entry)) j))) ⌝ }
 {
     let ms = layout::members_formed(t, j);
     let mut c = 0;
@@ -171,7 +171,7 @@ fn pick(found: &[u32; 256], k: usize) -> u32
 fn to_one_of(t: &[u32], firsts: &[bool; 65536], j: usize, v: u32, state: u64) -> Walker
     requires { ⌜ Formed limit (now t) ⌝ }
     requires { ⌜ (j < hyperedgeCount (now t)) × Firsts (now t) (now firsts) ⌝ }
-    ensures { λ r. ⌜ r ≡ toOneOf v state (others v (membersAt limit (now (t .entry)) j)) ⌝ }
+    ensures { λ r. ⌜ r ≡ toOneOf v state (otherMembers v (membersAt limit (now (t .entry)) j)) ⌝ }
 {
     let mut found = [0u32; 256];
     let n = list_others(t, firsts, j, v, &mut found);
@@ -199,7 +199,7 @@ fn drawn_hyperedge(
 ) -> usize
     requires { ⌜ Formed limit (now t) ⌝ }
     requires { ⌜ (i < vertexCount (now t)) × (0 < n) × (n ≡ length (listersOf (now t) i)) × Listers (now t) (hyperedgeCount (now t)) (now rows) (now counts) ⌝ }
-    ensures { λ r. ⌜ Drawn (now (t .entry)) (listersOf (now (t .entry)) i) draw r ⌝ }
+    ensures { λ r. ⌜ TakenBy (now (t .entry)) (listersOf (now (t .entry)) i) draw r ⌝ }
 {
     let total = total_weight(t, rows, counts, i, n);
     first_greater(t, rows, counts, i, n, sample(draw, total))
@@ -224,7 +224,7 @@ fn step_from(
     w: Walker,
 ) -> Walker
     requires { ⌜ Formed limit (now t) ⌝ }
-    requires { ⌜ (position (w .at) (liveVertices (read limit (now t))) ≡ Found.At i) × Laid (now t) (now firsts) (now rows) (now counts) ⌝ }
+    requires { ⌜ (position (w .at) (liveVertices (read limit (now t))) ≡ Found.At i) × Prepared (now t) (now firsts) (now rows) (now counts) ⌝ }
     ensures { λ r. ⌜ r ≡ move (read limit (now (t .entry))) w ⌝ }
 {
     let n = lister_count(t, rows, counts, i);
@@ -244,7 +244,7 @@ fn step(
     w: Walker,
 ) -> Walker
     requires { ⌜ Formed limit (now t) ⌝ }
-    requires { ⌜ Laid (now t) (now firsts) (now rows) (now counts) ⌝ }
+    requires { ⌜ Prepared (now t) (now firsts) (now rows) (now counts) ⌝ }
     ensures { λ r. ⌜ r ≡ move (read limit (now (t .entry))) w ⌝ }
 {
     let f = layout::find_vertex(t, VertexIndex(w.at));
@@ -265,7 +265,7 @@ fn write_walk(
     out: &mut [u32],
 )
     requires { ⌜ Formed limit (now t) ⌝ }
-    requires { ⌜ (n ≤ length (now out)) × Laid (now t) (now firsts) (now rows) (now counts) ⌝ }
+    requires { ⌜ (n ≤ length (now out)) × Prepared (now t) (now firsts) (now rows) (now counts) ⌝ }
     ensures { λ _. ⌜ now (out .exit) ≡ over (walkFrom (read limit (now (t .entry))) w n) (now (out .entry)) ⌝ }
 {
     let mut at = w.at;

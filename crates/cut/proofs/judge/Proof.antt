@@ -2,14 +2,14 @@
 use mathlib.Core.Path.{_≡_, refl}
 use Prim.Native.Nat.{_≤_, _-_}
 use Rattle.graph.specs.Reach.{matrix}
-use Rattle.cut.specs.State.{Judged}
+use Rattle.cut.specs.State.{CutsMarked}
 use Rattle.cut.proofs.Searching.{judged-none, judged-more, judged-end}
 use borrow.Author.Needs.{needs}
 use Rattle.cut.proofs.judge.Statement.{statement}
 use Rattle.cut.proofs.judge.Tie as tie
 
 abbrev Inv-loop : tie.InvT-loop
-Inv-loop m n cuts₀ rest₀ v₀ cuts rest v = (v ≤ n) × Judged (matrix m) n v cuts × (rest ≡ m)
+Inv-loop m n cuts₀ rest₀ v₀ cuts rest v = (v ≤ n) × CutsMarked (matrix m) n v cuts × (rest ≡ m)
 
 abbrev μ-loop : tie.MeasureT-loop
 μ-loop m n cuts₀ rest₀ v₀ cuts rest v = n - v

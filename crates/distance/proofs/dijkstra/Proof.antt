@@ -4,7 +4,7 @@ use native.Mathlib.Omega.{arith}
 use Rattle.distance.proofs.Cost.{first-under, search-first, search-end, search-fits, settled-wide, search-less, search-under, search-more}
 use Rattle.distance.proofs.Keys.{blocks-none}
 use Rattle.distance.specs.Cost.{stepIn, keyIn, Search}
-use Rattle.distance.specs.Labels.{live}
+use Rattle.distance.specs.Labels.{unsettled}
 use Rattle.distance.specs.Blocks.{Blocks}
 use borrow.Author.Needs.{needs}
 use Rattle.distance.proofs.dijkstra.Statement.{statement}
@@ -14,7 +14,7 @@ abbrev Inv-loop : tie.InvT-loop
 Inv-loop c w lists counts n s m₀ d₀ b₀ u₀ m d b u = Search (stepIn c) (keyIn c w) n s m d u × Blocks n m d b
 
 abbrev μ-loop : tie.MeasureT-loop
-μ-loop c w lists counts n s m₀ d₀ b₀ u₀ m d b u = live n m
+μ-loop c w lists counts n s m₀ d₀ b₀ u₀ m d b u = unsettled n m
 
 label-requires : tie.Need-label-requires Inv-loop μ-loop
 label-requires c κs =

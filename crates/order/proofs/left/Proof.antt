@@ -2,14 +2,14 @@
 use mathlib.Core.Path.{_≡_}
 use Prim.Native.Nat.{_≤_, _-_}
 use Rattle.order.specs.Least.{least}
-use Rattle.order.specs.State.{free}
+use Rattle.order.specs.State.{isFree}
 use Rattle.order.proofs.Blocks.{left-first, left-pass}
 use borrow.Author.Needs.{needs}
 use Rattle.order.proofs.left.Statement.{statement}
 use Rattle.order.proofs.left.Tie as tie
 
 abbrev Inv-loop : tie.InvT-loop
-Inv-loop n need k₀ k = (k ≤ n) × (least (free need) k (n - k) ≡ least (free need) n 0)
+Inv-loop n need k₀ k = (k ≤ n) × (least (isFree need) k (n - k) ≡ least (isFree need) n 0)
 
 abbrev μ-loop : tie.MeasureT-loop
 μ-loop n need k₀ k = k

@@ -7,7 +7,7 @@ use lib.ListN.{length}
 use Rattle.layout.specs.Content.{liveVertices}
 use Rattle.layout.specs.Layout.{limit, read}
 use Rattle.lookups.specs.Lookups.{connecting}
-use Rattle.lookups.specs.State.{ahead, Beyond, offset, Filling}
+use Rattle.lookups.specs.State.{listingAhead, Beyond, offset, Filling}
 use Rattle.lookups.proofs.Tally.{ahead-first, ahead-end}
 use Rattle.lookups.proofs.Full.{beyond-same, beyond-then, filling-as}
 use borrow.Author.Needs.{needs}
@@ -17,7 +17,7 @@ use Rattle.lookups.proofs.full_adjacent.fill.Tie as tie
 abbrev Inv-loop : tie.InvT-loop
 Inv-loop t v arriving nexts₀ out₀ m j₀ nexts out j =
     (j ≤ m)
-    × (Filling (liveVertices (read limit t)) (connecting arriving (read limit t) v) (ahead arriving (read limit t) v j) nexts out
+    × (Filling (liveVertices (read limit t)) (connecting arriving (read limit t) v) (listingAhead arriving (read limit t) v j) nexts out
     × Beyond (offset (liveVertices (read limit t)) (connecting arriving (read limit t) v) (length (liveVertices (read limit t)))) out₀ out)
 
 abbrev μ-loop : tie.MeasureT-loop

@@ -9,7 +9,7 @@ use Rattle.layout.specs.Content.{liveVertices}
 use Rattle.layout.specs.Layout.{limit, read}
 use Rattle.layout.proofs.Read.{live-ascends}
 use Rattle.lookups.specs.Lookups.{connecting}
-use Rattle.lookups.specs.State.{ahead, Beyond, offset, Filling}
+use Rattle.lookups.specs.State.{listingAhead, Beyond, offset, Filling}
 use Rattle.lookups.proofs.Shared.{live-fit}
 use Rattle.lookups.proofs.Tally.{passing, passing-first, passing-yes, passing-no, passing-end}
 use Rattle.lookups.proofs.Full.{beyond-same, filling-as, filling-room, fill-yes, fill-no}
@@ -20,7 +20,7 @@ use Rattle.lookups.proofs.full_adjacent.fill_record.Tie as tie
 abbrev Inv-loop : tie.InvT-loop
 Inv-loop t j v arriving nexts₀ out₀ ms e i₀ nexts out i =
     (i ≤ length ms)
-    × (Filling (liveVertices (read limit t)) (connecting arriving (read limit t) v) (passing arriving v e ms i (ahead arriving (read limit t) v (j + 1))) nexts out
+    × (Filling (liveVertices (read limit t)) (connecting arriving (read limit t) v) (passing arriving v e ms i (listingAhead arriving (read limit t) v (j + 1))) nexts out
     × Beyond (offset (liveVertices (read limit t)) (connecting arriving (read limit t) v) (length (liveVertices (read limit t)))) out₀ out)
 
 abbrev μ-loop : tie.MeasureT-loop
@@ -50,7 +50,7 @@ put-requires c κs =
       search needs,
       filling-room (l .loop .inv .1 .0) _ (l .before .hyperedge-number .result)
           (passing (s .args .arriving) (s .args .v) (l .before .hyperedge-number .result) (now (l .before .before .members-formed .result)) (l .loop .i + 1)
-          (ahead (s .args .arriving) (read limit (now (s .args .t))) (s .args .v) (s .args .j + 1)))
+          (listingAhead (s .args .arriving) (read limit (now (s .args .t))) (s .args .v) (s .args .j + 1)))
           (live-ascends limit (now (s .args .t)) f) (live-fit limit (now (s .args .t)) f)
           (passing-yes (s .args .arriving) _ _ _ _ _ _ _ (c .before .before .before .before .before .loop-test .taken) (c .before .before .before .before .end-at .ensures) (c .before .before .before .if1 .taken) (c .before .before .end-at2 .ensures)),
     )

@@ -6,14 +6,14 @@ use denote.Ref.{now}
 use Rattle.layout.specs.Content.{liveVertices}
 use Rattle.layout.specs.Layout.{limit, read}
 use Rattle.lookups.specs.Lookups.{connecting}
-use Rattle.lookups.specs.State.{ahead, Tallied}
+use Rattle.lookups.specs.State.{listingAhead, Tallied}
 use Rattle.lookups.proofs.Tally.{noCounts, tallied-none, tallied-as, ahead-first, ahead-end}
 use borrow.Author.Needs.{needs}
 use Rattle.lookups.proofs.full_adjacent.tally_places.Statement.{statement}
 use Rattle.lookups.proofs.full_adjacent.tally_places.Tie as tie
 
 abbrev Inv-loop : tie.InvT-loop
-Inv-loop t v arriving m counts₀ j₀ counts j = (j ≤ m) × Tallied (liveVertices (read limit t)) (connecting arriving (read limit t) v) (ahead arriving (read limit t) v j) counts
+Inv-loop t v arriving m counts₀ j₀ counts j = (j ≤ m) × Tallied (liveVertices (read limit t)) (connecting arriving (read limit t) v) (listingAhead arriving (read limit t) v j) counts
 
 abbrev μ-loop : tie.MeasureT-loop
 μ-loop t v arriving m counts₀ j₀ counts j = m - j

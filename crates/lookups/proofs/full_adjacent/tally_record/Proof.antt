@@ -9,7 +9,7 @@ use Rattle.layout.specs.Content.{liveVertices}
 use Rattle.layout.specs.Layout.{limit, hyperedgeAt, read}
 use Rattle.layout.proofs.Read.{live-length, live-ascends}
 use Rattle.lookups.specs.Lookups.{connecting}
-use Rattle.lookups.specs.State.{listingMost, ahead, Tallied}
+use Rattle.lookups.specs.State.{listingMost, listingAhead, Tallied}
 use Rattle.lookups.proofs.Shared.{live-fit}
 use Rattle.lookups.proofs.Tally.{passing, passing-first, passing-yes, passing-no, passing-end, connecting-most, tallied-as, tallied-one, tallied-most}
 use borrow.Author.Needs.{needs}
@@ -17,7 +17,7 @@ use Rattle.lookups.proofs.full_adjacent.tally_record.Statement.{stateme
 use Rattle.lookups.proofs.full_adjacent.tally_record.Tie as tie
 
 abbrev Inv-loop : tie.InvT-loop
-Inv-loop t j v arriving counts₀ ms i₀ counts i = (i ≤ length ms) × Tallied (liveVertices (read limit t)) (connecting arriving (read limit t) v) (passing arriving v (hyperedgeAt limit t j .number) ms i (ahead arriving (read limit t) v (j + 1))) counts
+Inv-loop t j v arriving counts₀ ms i₀ counts i = (i ≤ length ms) × Tallied (liveVertices (read limit t)) (connecting arriving (read limit t) v) (passing arriving v (hyperedgeAt limit t j .number) ms i (listingAhead arriving (read limit t) v (j + 1))) counts
 
 abbrev μ-loop : tie.MeasureT-loop
 μ-loop t j v arriving counts₀ ms i₀ counts i = length ms - i

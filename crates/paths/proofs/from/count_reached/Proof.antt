@@ -4,14 +4,14 @@ use Prim.Native.Nat.{_≤_, _-_}
 use native.Mathlib.Omega.{arith}
 use Rattle.lists.specs.Tests.{count}
 use Rattle.lists.proofs.Count.{bit-le}
-use Rattle.paths.specs.Written.{reached}
+use Rattle.paths.specs.Written.{isReached}
 use Rattle.paths.proofs.Writing.{count-next, count-all}
 use borrow.Author.Needs.{needs}
 use Rattle.paths.proofs.from.count_reached.Statement.{statement}
 use Rattle.paths.proofs.from.count_reached.Tie as tie
 
 abbrev Inv-loop : tie.InvT-loop
-Inv-loop n m k₀ v₀ k v = (v ≤ n) × (k ≤ v) × (k ≡ count (reached m) v)
+Inv-loop n m k₀ v₀ k v = (v ≤ n) × (k ≤ v) × (k ≡ count (isReached m) v)
 
 abbrev μ-loop : tie.MeasureT-loop
 μ-loop n m k₀ v₀ k v = n - v
@@ -26,7 +26,7 @@ one-reached-requires : tie.Need-one-reached-requires Inv-loop μ-loop
 one-reached-requires c κs = search needs
 
 add-k : tie.Need-add-k Inv-loop μ-loop
-add-k c = let l = c .before .before .before in omega (arith, c .one-reached .ensures, bit-le (reached (c .before .before .before .before .args .m .now) (l .loop .v)))
+add-k c = let l = c .before .before .before in omega (arith, c .one-reached .ensures, bit-le (isReached (c .before .before .before .before .args .m .now) (l .loop .v)))
 
 add-v : tie.Need-add-v Inv-loop μ-loop
 add-v c = search needs
@@ -35,7 +35,7 @@ loop-less : tie.Need-loop-less Inv-loop μ-loop
 loop-less c = search needs
 
 loop-again : tie.Need-loop-again Inv-loop μ-loop
-loop-again c = let l = c .before .before .before in (search needs, omega (arith, c .one-reached .ensures, bit-le (reached (c .before .before .before .before .args .m .now) (l .loop .v))), count-next (c .before .before .before .before .args .m .now) (l .loop .v) (l .loop .k) (l .loop .inv .2) _ (c .one-reached .ensures))
+loop-again c = let l = c .before .before .before in (search needs, omega (arith, c .one-reached .ensures, bit-le (isReached (c .before .before .before .before .args .m .now) (l .loop .v))), count-next (c .before .before .before .before .args .m .now) (l .loop .v) (l .loop .k) (l .loop .inv .2) _ (c .one-reached .ensures))
 
 returns : tie.Need-returns Inv-loop μ-loop
 returns c = (search count-all, search needs)

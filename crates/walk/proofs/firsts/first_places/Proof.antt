@@ -1,13 +1,13 @@
 -- `walk::firsts::first_places` meets its contract. Assumes nothing.
 use Prim.Native.Nat.{_≤_, _-_}
-use Rattle.walk.specs.Passes.{Judged}
+use Rattle.walk.specs.Passes.{FirstsMarked}
 use Rattle.walk.proofs.FirstPlaces.{judged-none, judged-all}
 use borrow.Author.Needs.{needs}
 use Rattle.walk.proofs.firsts.first_places.Statement.{statement}
 use Rattle.walk.proofs.firsts.first_places.Tie as tie
 
 abbrev Inv-loop : tie.InvT-loop
-Inv-loop t firsts₀ k j₀ firsts j = (j ≤ k) × Judged t j 0 firsts
+Inv-loop t firsts₀ k j₀ firsts j = (j ≤ k) × FirstsMarked t j 0 firsts
 
 abbrev μ-loop : tie.MeasureT-loop
 μ-loop t firsts₀ k j₀ firsts j = k - j

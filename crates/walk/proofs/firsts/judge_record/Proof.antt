@@ -1,14 +1,14 @@
 -- `walk::firsts::judge_record` meets its contract. Assumes nothing.
 use Prim.Native.Nat.{_-_}
 use lib.ListN.{length}
-use Rattle.walk.specs.Passes.{Judged}
+use Rattle.walk.specs.Passes.{FirstsMarked}
 use Rattle.walk.proofs.FirstPlaces.{judged-more, judged-next, place-within}
 use borrow.Author.Needs.{needs}
 use Rattle.walk.proofs.firsts.judge_record.Statement.{statement}
 use Rattle.walk.proofs.firsts.judge_record.Tie as tie
 
 abbrev Inv-loop : tie.InvT-loop
-Inv-loop t j firsts₀ ms p₀ firsts p = Judged t j p firsts
+Inv-loop t j firsts₀ ms p₀ firsts p = FirstsMarked t j p firsts
 
 abbrev μ-loop : tie.MeasureT-loop
 μ-loop t j firsts₀ ms p₀ firsts p = length ms - p
