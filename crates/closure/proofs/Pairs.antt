@@ -10,14 +10,13 @@ use lib.Dec.{eqb}
 use lib.ListN.{length, set, length-append, length-set}
 use borrow.Author.Tests.{eq-eqb, ne-eqb}
 use Rattle.lists.specs.Tests.{_and_, count, chosen}
-use Rattle.lists.specs.Lists.{flat, over}
+use Rattle.lists.specs.Lists.{flat, over, upTo}
 use Rattle.lists.proofs.Chosen.{chosen-none, chosen-in, chosen-out, chosen-count, chosen-ext, over-none, over-more}
 use Rattle.lists.proofs.Count.{count-below}
 use Rattle.lists.proofs.Flat.{flat-snoc}
 use Rattle.layout.specs.declared.Answer.the-variants.{Done, NoRoom}
 use Rattle.layout.specs.Answers.{result, listed}
 use Rattle.layout.proofs.Answers.{listed-over, listed-fits}
-use Rattle.components.specs.Classes.{upTo}
 use Rattle.components.specs.Parts.{Written}
 use Rattle.components.proofs.Blocks.{blocks-suc, blocks-ext}
 use Rattle.closure.specs.Pairs.{apart, secondsOf, pairWords, rowWords, pairsWords}

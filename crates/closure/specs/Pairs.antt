@@ -4,8 +4,7 @@ use mathlib.Core.List.{List, [], _∷_}
 use Prim.Native.Nat.{ℕ}
 use lib.Dec.{eqb}
 use Rattle.lists.specs.Tests.{_and_, chosen}
-use Rattle.lists.specs.Lists.{flat}
-use Rattle.components.specs.Classes.{upTo}
+use Rattle.lists.specs.Lists.{flat, upTo}
 
 -- x is not y, and the relation holds
 unfoldable pub apart : (ℕ → ℕ → Bool) → ℕ → ℕ → Bool
@@ -19,6 +18,7 @@ secondsOf E n x = chosen (apart E x) n
 abbrev pub pairWords : (ℕ → ℕ) → ℕ → ℕ → List ℕ
 pairWords f x y = f x ∷ f y ∷ []
 
+-- the pairs whose first is x
 unfoldable pub rowWords : (ℕ → ℕ) → (ℕ → ℕ → Bool) → ℕ → ℕ → List ℕ
 rowWords f E n x = flat (pairWords f x) (secondsOf E n x)
 

@@ -5,8 +5,8 @@ use mathlib.Core.List.{List}
 use Prim.Native.Nat.{ℕ, _+_, _*_, _<_}
 use lib.ListN.{length, getD}
 use Rattle.lists.specs.Tests.{bit}
-use Rattle.lists.specs.Lists.{flat}
-use Rattle.components.specs.Classes.{reached, upTo}
+use Rattle.lists.specs.Lists.{flat, upTo}
+use Rattle.components.specs.Classes.{reached}
 use Rattle.closure.specs.Pairs.{secondsOf}
 
 -- the first v entries of row x are the marks, and no row before it is changed

@@ -10,7 +10,7 @@ use lib.Dec.{eqb, leb}
 use lib.ListN.{length, getD, take, drop, set, length-append, length-set, length-drop}
 use borrow.Author.Tests.{eq-eqb, ne-eqb, le-leb, lt-leb}
 use Rattle.lists.specs.Tests.{bit, count, chosen}
-use Rattle.lists.specs.Lists.{flat, over, counted}
+use Rattle.lists.specs.Lists.{flat, over, counted, upTo, Wrote}
 use Rattle.lists.proofs.Cases.{on-same, on-below}
 use Rattle.lists.proofs.Tab.{tab-suc, map-tab}
 use Rattle.lists.proofs.Flat.{flat-snoc, tab-getD}
@@ -21,8 +21,8 @@ use Rattle.layout.specs.declared.Answer.the-variants.{Done, NoRoom}
 use Rattle.layout.specs.Answers.{result, listed}
 use Rattle.layout.proofs.Answers.{listed-over, listed-fits}
 use Rattle.marks.proofs.Marked.{picked-length}
-use Rattle.components.specs.Classes.{class, rootsOf, classes, upTo}
-use Rattle.components.specs.Parts.{inClass, Filled, Partition, classWords, partWords, Written}
+use Rattle.components.specs.Classes.{class, rootsOf, classes}
+use Rattle.components.specs.Parts.{inClass, Filled, Partition, classWords, partWords}
 
 -- ---- blocks: h k is the k-th
 
@@ -77,13 +77,13 @@ module _ {h : ℕ → List ℕ} {a₀ : List ℕ} {k at : ℕ} {a : List ℕ} (w
   blocks-lent l = rw (part-tail at a) (omega (arith, blocks-room l, length-drop at a))
 
   -- b is what came back of the part from `at` on, and j how much of it is written
-  pub blocks-more : (b : List ℕ) (j : ℕ) → Written (h k) (take (length a - at) (drop at a)) b j
+  pub blocks-more : (b : List ℕ) (j : ℕ) → Wrote (h k) (take (length a - at) (drop at a)) j b
       → Blocks h a₀ (k + 1) (at + j) (take at a ++ (b ++ drop (length a - at) (drop at a)))
   blocks-more b j g = record {
-    is = back-tail at a b ∙ ap (λ (x : List ℕ). take at a ++ x) (g .is ∙ ap (over (h k)) (part-tail at a))
+    is = back-tail at a b ∙ ap (λ (x : List ℕ). take at a ++ x) (g .wrote ∙ ap (over (h k)) (part-tail at a))
         ∙ ap (λ (x : List ℕ). take at x ++ over (h k) (drop at x)) (w .is) ∙ over-part (flat h (upTo k)) (h k) a₀ at (sym (w .ends))
         ∙ ap (λ (x : List ℕ). over x a₀) (sym (blocks-suc h k));
-    ends = omega (arith, w .ends, g .ends, ap length (blocks-suc h k), length-append (flat h (upTo k)) (h k));
+    ends = omega (arith, w .ends, g .words, ap length (blocks-suc h k), length-append (flat h (upTo k)) (h k));
   }
 
   pub blocks-end : k ≤ n → n ≤ k → a ≡ over (flat h (upTo n)) a₀
@@ -95,7 +95,7 @@ pub class-length : (f : ℕ → ℕ) (ids : List ℕ) (n k : ℕ) → length (cl
 unfolding classWords
 class-length f ids n k = ap suc (picked-length (inClass ids (k + 1)) f n)
 
-pub class-as : (f : ℕ → ℕ) (ids : List ℕ) (n k : ℕ) {d d′ : List ℕ} {at : ℕ} → Written (counted (map f (chosen (inClass ids (k + 1)) n))) d d′ at → Written (classWords f ids n k) d d′ at
+pub class-as : (f : ℕ → ℕ) (ids : List ℕ) (n k : ℕ) {d d′ : List ℕ} {at : ℕ} → Wrote (counted (map f (chosen (inClass ids (k + 1)) n))) d at d′ → Wrote (classWords f ids n k) d at d′
 unfolding classWords
 class-as f ids n k w = w
 
@@ -104,19 +104,19 @@ class-lent p n s d l = rw (part-tail 1 (set d 0 s)) (omega (arith, length-drop 1
 
 -- s is what `class_size` found, b what came back of the part from 1 on
 module _ (f : ℕ → ℕ) (p : ℕ → Bool) (n s : ℕ) (e : s ≡ count p n) (d : List ℕ) (l : suc (count p n) ≤ length d) (b : List ℕ) (q : b ≡ over (map f (chosen p n)) (take (length (set d 0 s) - 1) (drop 1 (set d 0 s)))) where
-  pub class-written : Written (counted (map f (chosen p n))) d (take 1 (set d 0 s) ++ (b ++ drop (length (set d 0 s) - 1) (drop 1 (set d 0 s)))) (s + 1)
+  pub class-written : Wrote (counted (map f (chosen p n))) d (s + 1) (take 1 (set d 0 s) ++ (b ++ drop (length (set d 0 s) - 1) (drop 1 (set d 0 s))))
   class-written =
       let m : s ≡ length (map f (chosen p n)) = e ∙ sym (picked-length p f n) in
       let w : set d 0 s ≡ over (s ∷ []) d = ap (λ (x : List ℕ). set x 0 s) (sym (over-none d)) ∙ over-more [] d s 0 refl (omega arith) in
       record {
-        is = back-tail 1 (set d 0 s) b ∙ ap (λ (x : List ℕ). take 1 (set d 0 s) ++ x) (q ∙ ap (over (map f (chosen p n))) (part-tail 1 (set d 0 s)))
+        wrote = back-tail 1 (set d 0 s) b ∙ ap (λ (x : List ℕ). take 1 (set d 0 s) ++ x) (q ∙ ap (over (map f (chosen p n))) (part-tail 1 (set d 0 s)))
             ∙ ap (λ (x : List ℕ). take 1 x ++ over (map f (chosen p n)) (drop 1 x)) w ∙ over-part (s ∷ []) (map f (chosen p n)) d 1 refl
             ∙ ap (λ (x : ℕ). over (x ∷ map f (chosen p n)) d) m;
-        ends = omega (arith, m);
+        words = omega (arith, m);
       }
 
   pub class-same : length (take 1 (set d 0 s) ++ (b ++ drop (length (set d 0 s) - 1) (drop 1 (set d 0 s)))) ≡ length d
-  class-same = ap length (class-written .is) ∙ over-length (counted (map f (chosen p n))) d (omega (arith, picked-length p f n))
+  class-same = ap length (class-written .wrote) ∙ over-length (counted (map f (chosen p n))) d (omega (arith, picked-length p f n))
 
 -- ---- all classes: a length for each, and every number once
 

@@ -6,16 +6,16 @@ use Prim.Native.Nat.{ℕ, suc, _+_, _≤_, _<_, suc-le-suc}
 use native.Mathlib.Nat.{zero-lt-suc}
 use native.Mathlib.Omega.{arith}
 use lib.ListN.{length, getD, drop, replicate, drop-of-length-le}
-use Rattle.lists.specs.Lists.{memb, Below}
+use Rattle.lists.specs.Lists.{memb, Below, upTo}
 use Rattle.lists.proofs.Tab.{length-tab, getD-tab, drop-tab}
 use Rattle.lists.proofs.Memb.{memb-getD}
 use Rattle.walks.specs.Walks.{here}
 use Rattle.walks.proofs.Walks.{reach-trans}
-use Rattle.graph.specs.Reach.{Edge}
+use Rattle.graph.specs.Reach.{Edge, Symmetric}
 use Rattle.graph.proofs.Bfs.{bfs-sound, bfs-complete}
 use Rattle.steps.proofs.Together.{reach-swap}
-use Rattle.components.specs.Classes.{reached, rootsOf, upTo}
-use Rattle.components.specs.Parts.{Symmetric, Tried, Parting, Partition}
+use Rattle.components.specs.Classes.{reached, rootsOf}
+use Rattle.components.specs.Parts.{Tried, Parting, Partition}
 use Rattle.components.proofs.Roots.{Equivalence}
 use Rattle.components.proofs.Parts.{parting-first, parting-room, parting-more, parting-end}
 

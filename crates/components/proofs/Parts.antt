@@ -10,13 +10,12 @@ use lib.Dec.{eqb}
 use lib.ListN.{length, getD, replicate, length-append, length-replicate, getD-replicate, List·getD-append}
 use lib.Seq.{getD-append-seam}
 use borrow.Author.Tests.{eq-eqb, ne-eqb, eqb-true}
-use Rattle.lists.specs.Lists.{any, memb, Below}
+use Rattle.lists.specs.Lists.{any, memb, Below, turned}
 use Rattle.lists.proofs.Cases.{on, on-same, clash}
 use Rattle.lists.proofs.Memb.{below-snoc, below-memb, memb-getD}
 use Rattle.lists.proofs.Count.{bit-one}
 use Rattle.graph.specs.Bfs.{bfs}
 use Rattle.graph.specs.Held.{Marks}
-use Rattle.steps.specs.Matrices.{turned}
 use Rattle.steps.proofs.Any.{any-at, any-of}
 use Rattle.components.specs.Classes.{reached, rootsOf, rootsFrom, rooted}
 use Rattle.components.specs.Parts.{flagged, inClass, Joined, Tried, Parted, Parting, Partition}

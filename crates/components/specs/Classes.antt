@@ -3,9 +3,8 @@ use mathlib.Core.Bool.{Bool, cond}
 use mathlib.Core.List.{List, [], _∷_, _++_, map}
 use Prim.Native.Nat.{ℕ}
 use Rattle.lists.specs.Tests.{chosen}
-use Rattle.lists.specs.Lists.{memb, any, tab}
+use Rattle.lists.specs.Lists.{memb, any, turned}
 use Rattle.graph.specs.Bfs.{bfs}
-use Rattle.steps.specs.Matrices.{turned}
 
 -- v is reached from r
 abbrev pub reached : (ℕ → ℕ → Bool) → ℕ → ℕ → ℕ → Bool
@@ -24,12 +23,10 @@ unfoldable pub rootsFrom : (ℕ → ℕ → Bool) → List ℕ → List ℕ → 
 rootsFrom P roots [] = roots
 rootsFrom P roots (r ∷ rs) = rootsFrom P (rooted P roots r) rs
 
+-- the roots of an order
 abbrev pub rootsOf : (ℕ → ℕ → Bool) → List ℕ → List ℕ
 rootsOf P order = rootsFrom P [] order
 
+-- the classes of its roots
 unfoldable pub classes : (ℕ → ℕ → Bool) → ℕ → List ℕ → List (List ℕ)
 classes P n order = map (class P n) (rootsOf P order)
-
--- the numbers below n, ascending
-abbrev pub upTo : ℕ → List ℕ
-upTo n = tab (λ i. i) n

@@ -6,8 +6,8 @@ use Prim.Native.Nat.{ℕ, suc, _+_, _≤_, _<_}
 use lib.Dec.{eqb}
 use lib.ListN.{length, getD}
 use Rattle.lists.specs.Tests.{chosen}
-use Rattle.lists.specs.Lists.{Below, flat, over, counted}
-use Rattle.components.specs.Classes.{rootsOf, rootsFrom, upTo}
+use Rattle.lists.specs.Lists.{Below, flat, counted, upTo}
+use Rattle.components.specs.Classes.{rootsOf, rootsFrom}
 
 -- v has a mark
 abbrev pub flagged : List ℕ → ℕ → Bool
@@ -52,10 +52,6 @@ pub record Partition (P : ℕ → ℕ → Bool) (n : ℕ) (order ids : List ℕ)
   pub parted : Parted P n (rootsOf P order) ids c
   pub filled : Filled n c ids
 
--- the relation is the same both ways
-abbrev pub Symmetric : (ℕ → ℕ → Bool) → ℕ → Type 0
-Symmetric E n = (i j : ℕ) → i < n → j < n → E i j ≡ E j i
-
 -- ---- what is written: f gives each member its word
 
 -- class k + 1, as its length and its members
@@ -65,8 +61,3 @@ classWords f ids n k = counted (map f (chosen (inClass ids (k + 1)) n))
 -- the first c classes
 abbrev pub partWords : (ℕ → ℕ) → List ℕ → ℕ → ℕ → List ℕ
 partWords f ids n c = flat (classWords f ids n) (upTo c)
-
--- w is written from the front of d, and at is where it ends
-pub record Written (w d d′ : List ℕ) (at : ℕ) : Type 0 where
-  pub is : d′ ≡ over w d
-  pub ends : at ≡ length w

@@ -6,14 +6,14 @@ ghost use Prim.Native.Nat.{suc, _<_, _≤_};
 ghost use lib.Dec.{eqb};
 ghost use lib.ListN.{length};
 ghost use Rattle.lists.specs.Tests.{count, chosen};
-ghost use Rattle.lists.specs.Lists.{over, counted};
+ghost use Rattle.lists.specs.Lists.{over, counted, upTo, Wrote};
 ghost use Rattle.layout.specs.Layout.{limit, vertexLimit, vertexCount, read};
 ghost use Rattle.layout.specs.WellFormed.{Formed};
 ghost use Rattle.layout.specs.Answers.{result, listed};
-ghost use Rattle.graph.specs.Reach.{matrix};
+ghost use Rattle.graph.specs.Reach.{matrix, Symmetric};
 ghost use Rattle.steps.specs.Matrices.{numberOf};
-ghost use Rattle.components.specs.Classes.{reached, upTo};
-ghost use Rattle.components.specs.Parts.{flagged, inClass, Joined, Tried, Partition, Symmetric, Filled, Written, partWords};
+ghost use Rattle.components.specs.Classes.{reached};
+ghost use Rattle.components.specs.Parts.{flagged, inClass, Joined, Tried, Partition, Filled, partWords};
 use layout::Answer;
 
 fn either(was: u32, mark: u8, k: u32) -> u32
@@ -101,7 +101,7 @@ fn write_members(t: &[u32], ids: &[u32; 256], n: usize, k: u32, part: &mut [u32]
 fn write_class(t: &[u32], ids: &[u32; 256], n: usize, k: u32, part: &mut [u32]) -> usize
     requires { ⌜ Formed limit (now t) ⌝ }
     requires { ⌜ (n ≡ vertexCount (now t)) × (suc (count (inClass (now ids) k) n) ≤ length (now part)) ⌝ }
-    ensures { λ r. ⌜ Written (counted (map (numberOf (read limit (now (t .entry)))) (chosen (inClass (now (ids .entry)) k) n))) (now (part .entry)) (now (part .exit)) r ⌝ }
+    ensures { λ r. ⌜ Wrote (counted (map (numberOf (read limit (now (t .entry)))) (chosen (inClass (now (ids .entry)) k) n))) (now (part .entry)) r (now (part .exit)) ⌝ }
 {
     let size = class_size(ids, n, k);
     part[0] = size;

@@ -20,7 +20,7 @@ use Rattle.layout.specs.Answers.{Result, listed}
 use Rattle.layout.proofs.Read.{live-length, live-ascends, formed-of}
 use Rattle.layout.proofs.Shape.{shaped-by}
 use Rattle.layout.proofs.Back.{read-words, words-formed, read-holdable}
-use Rattle.graph.specs.Reach.{matrix}
+use Rattle.graph.specs.Reach.{matrix, Symmetric}
 use Rattle.graph.proofs.Bfs.{bfs-sound, bfs-complete}
 use Rattle.edits.specs.Edits.{removeVertex}
 use Rattle.edits.proofs.Holdable.{remove-vertex-holdable}
@@ -31,7 +31,7 @@ use Rattle.steps.proofs.Records.{Agrees, record-once, record-of, holds-agrees, 
 use Rattle.marks.specs.Marks.{marked}
 use Rattle.marks.proofs.Marked.{marked-filter}
 use Rattle.cut.specs.Cut.{Separated, Cut, recordOf, isLinked, parts, otherVertices, partsSome, isCut, cutVertices, cutVerticesResult}
-use Rattle.cut.specs.State.{togetherBetween, avoiding, Mirrored, CutIn, Decides, CutsMarked}
+use Rattle.cut.specs.State.{togetherBetween, avoiding, CutIn, Decides, CutsMarked}
 use Rattle.cut.proofs.Gathering.{record-at}
 use Rattle.cut.proofs.Removed.{removed-together, removed-live}
 
@@ -147,9 +147,12 @@ module _ {ws : List ℕ} (f : Formed limit ws) {m : List ℕ} (w : Holds (togeth
   agrees : Agrees ws (together (read limit ws)) (matrix m)
   agrees = holds-agrees f (together (read limit ws)) w
 
-  pub matrix-mirrored : Mirrored (matrix m) (vertexCount ws)
-  matrix-mirrored i j li lj e =
+  turned-mark : (i j : ℕ) → i < vertexCount ws → j < vertexCount ws → matrix m i j ≡ true → matrix m j i ≡ true
+  turned-mark i j li lj e =
       agrees j i lj li ∙ together-swap (read limit ws) (numberOf (read limit ws) i) (numberOf (read limit ws) j) (sym (agrees i j li lj) ∙ e)
+
+  matrix-symmetric : Symmetric (matrix m) (vertexCount ws)
+  matrix-symmetric i j li lj = test-ext (matrix m i j) (matrix m j i) (turned-mark i j li lj) (turned-mark j i lj li)
 
   held : holdable limit (read limit ws) ≡ true
   unfolding wellFormed
@@ -209,8 +212,8 @@ module _ {ws : List ℕ} (f : Formed limit ws) {m : List ℕ} (w : Holds (togeth
 
   -- n is what `vertex_count` found, cuts what `judge` marked
   module _ (n : ℕ) (e : n ≡ vertexCount ws) where
-    pub mirrored-by : Mirrored (matrix m) n
-    mirrored-by = rw e matrix-mirrored
+    pub symmetric-by : Symmetric (matrix m) n
+    symmetric-by = rw e matrix-symmetric
 
     pub cuts-listed : (cuts : List Bool) → CutsMarked (matrix m) n n cuts → (out : List ℕ) (x : Result) → x ≡ listed (marked cuts (liveVertices (read limit ws))) out → x ≡ cutVerticesResult out (read limit ws)
     unfolding cutVerticesResult cutVertices

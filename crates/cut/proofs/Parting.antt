@@ -14,10 +14,10 @@ use Rattle.lists.proofs.Count.{find}
 use Rattle.lists.proofs.Every.{every-at, every-of}
 use Rattle.walks.specs.Walks.{Reach, here, step}
 use Rattle.walks.proofs.Walks.{reach-trans, reach-map}
-use Rattle.graph.specs.Reach.{Edge}
+use Rattle.graph.specs.Reach.{Edge, Symmetric}
 use Rattle.graph.specs.Post.{Reached}
 use Rattle.steps.proofs.Together.{reach-swap}
-use Rattle.cut.specs.State.{avoiding, stopping, isMate, FirstMate, isKept, Mirrored, CutIn, Decides}
+use Rattle.cut.specs.State.{avoiding, stopping, isMate, FirstMate, isKept, CutIn, Decides}
 
 other : (x v : ℕ) → (x ≡ v → ⊥) → not (eqb x v) ≡ true
 other x v ne = rw (ne-eqb x v ne)
@@ -77,9 +77,9 @@ module _ (E : ℕ → ℕ → Bool) (n v : ℕ) where
     eqb-false (getD marks j 0) 1 (or-false-right (not (isMate E v j)) (eqb (getD marks j 0) 1) e),
   )
 
-  module _ (both : Mirrored E n) where
+  module _ (both : Symmetric E n) where
     back : {x y : ℕ} → Reach (Edge (avoiding E v) n) x y → Reach (Edge (avoiding E v) n) y x
-    back w = reach-swap (λ x y e. let r = avoid-ends e in avoid (r .1) (r .0) (e .1, e .0, both x y (e .0) (e .1) (r .2))) w
+    back w = reach-swap (λ x y e. let r = avoid-ends e in avoid (r .1) (r .0) (e .1, e .0, sym (both x y (e .0) (e .1)) ∙ r .2)) w
 
     -- a walk from another record goes without v, or comes without v to a mate of v
     meets : {x y : ℕ} → (x ≡ v → ⊥) → Reach (Edge E n) x y
@@ -88,7 +88,7 @@ module _ (E : ℕ → ℕ → Bool) (n v : ℕ) where
     meets {x} nx (step {y = a} {z = b} w e) =
         ⊎-elim
         (λ (p : Reach (Edge (avoiding E v) n) x a). on-same b v
-        (λ s. inr (a, e .0, mate-of (clear nx p) (both a v (e .0) (subst (λ (i : ℕ). i < n) s (e .1)) (subst (λ (i : ℕ). E a i ≡ true) s (e .2))), p))
+        (λ s. inr (a, e .0, mate-of (clear nx p) (sym (both a v (e .0) (subst (λ (i : ℕ). i < n) s (e .1))) ∙ subst (λ (i : ℕ). E a i ≡ true) s (e .2)), p))
         (λ nb. inl (step p (avoid (clear nx p) nb e))))
         (λ (p : (u : ℕ) × (u < n) × (isMate E v u ≡ true) × Reach (Edge (avoiding E v) n) x u). inr p)
         (meets nx w)
@@ -118,7 +118,7 @@ module _ (E : ℕ → ℕ → Bool) (n v : ℕ) where
       all-near : every (isKept E v marks) n ≡ true → CutIn E n v → ⊥
       all-near k c =
           let p = mate-met (c .a-other) (c .linked) (c .parted) in
-          let q = mate-met (c .b-other) (reach-swap (λ x y e. (e .1, e .0, both x y (e .0) (e .1) (e .2))) (c .linked)) (λ w. c .parted (back w)) in
+          let q = mate-met (c .b-other) (reach-swap (λ x y e. (e .1, e .0, sym (both x y (e .0) (e .1)) ∙ e .2)) (c .linked)) (λ w. c .parted (back w)) in
           marked-near (p .0) (p .1) (p .2) (kept-marked marks (p .0) (every-at (isKept E v marks) n (p .0) k (p .1)) (p .2))
           (λ x. marked-near (q .0) (q .1) (q .2) (kept-marked marks (q .0) (every-at (isKept E v marks) n (q .0) k (q .1)) (q .2))
           (λ y. c .parted (reach-trans (p .3) (reach-trans (back x) (reach-trans y (back (q .3)))))))
@@ -133,7 +133,7 @@ module _ (E : ℕ → ℕ → Bool) (n v : ℕ) where
             b = j;
             a-other = p .0;
             b-other = q .0;
-            linked = step (step here (a-below, lv, both v a lv a-below (p .1))) (lv, l, q .1);
+            linked = step (step here (a-below, lv, sym (both v a lv a-below) ∙ p .1)) (lv, l, q .1);
             parted = λ w. b .1 (m .yes j l (avoid-stop w));
           }
 

@@ -56,6 +56,6 @@ isCut t v = any (partsSome t v) (otherVertices t v)
 unfoldable pub cutVertices : Table → List ℕ
 cutVertices t = filter (isCut t) (liveVertices t)
 
--- 11
+-- find_cut_vertices: 1, 11
 unfoldable pub cutVerticesResult : List ℕ → Table → Result
 cutVerticesResult lent t = listed (cutVertices t) lent

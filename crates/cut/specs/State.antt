@@ -6,15 +6,17 @@ use Prim.Native.Nat.{ℕ, _≤_, _<_}
 use lib.Dec.{eqb}
 use lib.ListN.{length, getD, take, set}
 use Rattle.lists.specs.Tests.{_and_}
-use Rattle.lists.specs.Lists.{any, Below}
+use Rattle.lists.specs.Lists.{any}
 use Rattle.layout.specs.Content.{Table}
 use Rattle.layout.specs.Layout.{limit, vertexLimit, vertexCount, read}
 use Rattle.graph.specs.Reach.{Edge}
 use Rattle.steps.specs.Matrices.{together, listsBoth, between, cell, Holds}
+use Rattle.steps.specs.Ordered.{Standing}
 use Rattle.cut.specs.Cut.{Separated}
 
 -- ---- the matrix of co-membership
 
+-- co-membership, said of the records
 abbrev pub togetherBetween : Table → ℕ → ℕ → Bool
 togetherBetween t = between t (together t)
 
@@ -26,12 +28,9 @@ firstTogether t k x y = any (listsBoth x y) (take k (t .hyperedges))
 abbrev pub Gathered : List ℕ → ℕ → List ℕ → Type 0
 Gathered ws k m = Holds (between (read limit ws) (firstTogether (read limit ws) k)) (vertexCount ws) m
 
--- the c records l, each below n, stand in the first places of an array
-pub record Places (n c : ℕ) (places l : List ℕ) : Type 0 where
-  pub first : take c places ≡ l
-  pub count : c ≡ length l
-  pub short : c ≤ limit
-  pub below : Below n l
+-- the records of a member list: not more than the member limit
+abbrev pub Places : ℕ → ℕ → List ℕ → List ℕ → Type 0
+Places n c places l = Standing n limit c places l
 
 -- a mark for a and each of the list
 unfoldable pub withRow : ℕ → List ℕ → List ℕ → List ℕ
@@ -72,10 +71,6 @@ pub record Cleared (v j : ℕ) (m p : List ℕ) : Type 0 where
   pub long : length p ≡ length m
   pub gone : (i : ℕ) → i < j → getD p (cell v i) 0 ≡ 0
   pub same : (k : ℕ) → ((i : ℕ) → i < j → k ≡ cell v i → ⊥) → getD p k 0 ≡ getD m k 0
-
--- what leads from i to j leads from j to i
-abbrev pub Mirrored : (ℕ → ℕ → Bool) → ℕ → Type 0
-Mirrored E n = (i j : ℕ) → i < n → j < n → E i j ≡ true → E j i ≡ true
 
 -- two other records are linked, and are not without v
 abbrev pub CutIn : (ℕ → ℕ → Bool) → ℕ → ℕ → Type 0

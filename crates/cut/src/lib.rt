@@ -8,11 +8,11 @@ ghost use Rattle.layout.specs.Content.{liveVertices};
 ghost use Rattle.layout.specs.Layout.{limit, vertexLimit, vertexCount, hyperedgeCount, membersAt, read};
 ghost use Rattle.layout.specs.WellFormed.{Formed};
 ghost use Rattle.layout.specs.Answers.{result};
-ghost use Rattle.graph.specs.Reach.{matrix};
+ghost use Rattle.graph.specs.Reach.{matrix, Symmetric};
 ghost use Rattle.graph.specs.Post.{Reached};
 ghost use Rattle.steps.specs.Matrices.{Holds};
 ghost use Rattle.cut.specs.Cut.{recordOf, cutVerticesResult};
-ghost use Rattle.cut.specs.State.{togetherBetween, Gathered, Places, withRow, withPairs, stopping, isMate, FirstMate, isKept, Cleared, Mirrored, CutIn, Decides, CutsMarked};
+ghost use Rattle.cut.specs.State.{togetherBetween, Gathered, Places, withRow, withPairs, stopping, isMate, FirstMate, isKept, Cleared, CutIn, Decides, CutsMarked};
 use layout::Answer;
 use layout::Found;
 use layout::VertexIndex;
@@ -198,7 +198,7 @@ fn all_kept(m: &[u8; 65536], n: usize, v: usize, marks: &[u8; 256]) -> bool
 
 // Whether v parts its first mate a from another of its mates.
 fn parts_mates(m: &[u8; 65536], rest: &mut [u8; 65536], n: usize, v: usize, a: usize) -> bool
-    requires { ⌜ (n ≤ vertexLimit) × (v < n) × (a < n) × Mirrored (matrix (now m)) n × FirstMate (matrix (now m)) n v a × (now rest ≡ now m) ⌝ }
+    requires { ⌜ (n ≤ vertexLimit) × (v < n) × (a < n) × Symmetric (matrix (now m)) n × FirstMate (matrix (now m)) n v a × (now rest ≡ now m) ⌝ }
     ensures { λ r. ⌜ Decides r (CutIn (matrix (now (m .entry))) n v) × (now (rest .exit) ≡ now (m .entry)) ⌝ }
 {
     let mut marks = [0u8; 256];
@@ -208,7 +208,7 @@ fn parts_mates(m: &[u8; 65536], rest: &mut [u8; 65536], n: usize, v: usize, a: u
 
 // Whether v is cut.
 fn is_cut(m: &[u8; 65536], rest: &mut [u8; 65536], n: usize, v: usize) -> bool
-    requires { ⌜ (n ≤ vertexLimit) × (v < n) × Mirrored (matrix (now m)) n × (now rest ≡ now m) ⌝ }
+    requires { ⌜ (n ≤ vertexLimit) × (v < n) × Symmetric (matrix (now m)) n × (now rest ≡ now m) ⌝ }
     ensures { λ r. ⌜ Decides r (CutIn (matrix (now (m .entry))) n v) × (now (rest .exit) ≡ now (m .entry)) ⌝ }
 {
     let a = first_mate(m, n, v);
@@ -220,7 +220,7 @@ fn is_cut(m: &[u8; 65536], rest: &mut [u8; 65536], n: usize, v: usize) -> bool
 
 // Marks which of the n records are cut.
 fn judge(m: &[u8; 65536], n: usize, cuts: &mut [bool; 256])
-    requires { ⌜ (n ≤ vertexLimit) × Mirrored (matrix (now m)) n × (length (now cuts) ≡ vertexLimit) ⌝ }
+    requires { ⌜ (n ≤ vertexLimit) × Symmetric (matrix (now m)) n × (length (now cuts) ≡ vertexLimit) ⌝ }
     ensures { λ _. ⌜ CutsMarked (matrix (now (m .entry))) n n (now (cuts .exit)) ⌝ }
 {
     let mut rest = *m;

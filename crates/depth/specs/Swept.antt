@@ -7,6 +7,7 @@ use lib.ListN.{length, take}
 use Rattle.depth.specs.Finish.{sweep, untouched, finished}
 use Rattle.depth.specs.Went.{progress, Fit}
 
+-- the starts below x are tried, and to try the rest makes the whole
 pub record Swept (E : ℕ → ℕ → Bool) (n : ℕ) (m o : List ℕ) (t x : ℕ) : Type 0 where
   pub within : x ≤ n
   pub fit : Fit n m o t 0

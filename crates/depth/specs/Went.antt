@@ -5,6 +5,7 @@ use Prim.Native.Nat.{ℕ, _+_, _-_, _≤_, _<_}
 use lib.ListN.{length, take}
 use Rattle.depth.specs.Dfs.{Progress, free}
 
+-- marks and listing as the arrays hold them
 abbrev pub progress : List ℕ → List ℕ → ℕ → Progress
 progress m o t = record { marks = m; out = take t o }
 
@@ -20,6 +21,7 @@ pub record Fit (n : ℕ) (m o : List ℕ) (t d : ℕ) : Type 0 where
   pub long : length o ≡ 256
   pub room : t + d + free n m ≤ n
 
+-- spec, with any number of turns that suffices, makes of the state before the state after
 pub record Went (spec : ℕ → Progress → Progress) (n : ℕ) (m o : List ℕ) (t : ℕ) (m′ o′ : List ℕ) (t′ : ℕ) : Type 0 where
   pub is : (f : ℕ) → free n m ≤ f → spec f (progress m o t) ≡ progress m′ o′ t′
   pub grew : t ≤ t′

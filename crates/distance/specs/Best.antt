@@ -31,11 +31,13 @@ pub record Best (R : ℕ → ℕ → Type 0) (W : ℕ → ℕ → ℕ) (x y : �
 
 -- ---- computed
 
+-- l comes lexicographically before k, or is k
 unfoldable pub lexLe : List ℕ → List ℕ → Bool
 lexLe [] k = true
 lexLe (x ∷ l) [] = false
 lexLe (x ∷ l) (y ∷ k) = ltb x y || (eqb x y && lexLe l k)
 
+-- by total, then by steps, then by the vertex list
 unfoldable pub ahead : (ℕ → ℕ → ℕ) → ℕ → List ℕ → List ℕ → Bool
 ahead W x l k =
     ltb (total W x l) (total W x k) || (eqb (total W x l) (total W x k) && (ltb (length l) (length k) || (eqb (length l) (length k) && lexLe l k)))
@@ -57,6 +59,7 @@ unfoldable pub bestOver : (ℕ → ℕ → Bool) → (ℕ → ℕ → ℕ) → �
 bestOver E W x on [] = none
 bestOver E W x on (v ∷ vs) = better W x (onward (E x v) v (on v)) (bestOver E W x on vs)
 
+-- no step: from x to itself
 unfoldable pub stay : ℕ → ℕ → Option (List ℕ)
 stay x y = cond (eqb x y) (some []) none
 

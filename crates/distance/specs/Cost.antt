@@ -12,6 +12,7 @@ use Rattle.distance.specs.Labels.{relaxedMark, relaxedKey, Labels, unset
 abbrev pub choiceIn : List ℕ → ℕ → ℕ → ℕ
 choiceIn c u v = getD c (u * 256 + v) 0
 
+-- there is a step from u to v
 abbrev pub stepIn : List ℕ → ℕ → ℕ → Bool
 stepIn c u v = not (eqb (choiceIn c u v) 0)
 

@@ -16,6 +16,7 @@ relaxedMark b m = cond (b && eqb m 0) 1 m
 abbrev pub relaxedKey : Bool → ℕ → ℕ → ℕ → ℕ
 relaxedKey b m d c = cond (b && (eqb m 0 || (eqb m 1 && ltb c d))) c d
 
+-- the same at every number
 pub record Relaxed (E : ℕ → ℕ → Bool) (W : ℕ → ℕ → ℕ) (B n u : ℕ) (m d m′ d′ : List ℕ) : Type 0 where
   pub bounded : (v : ℕ) → v < n → E u v ≡ true → W u v ≤ B
   pub wide : length m′ ≡ 256

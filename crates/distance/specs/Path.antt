@@ -14,6 +14,7 @@ key W x v = W x v * 65536 + 1
 unfoldable pub isTight : (ℕ → ℕ → Bool) → (ℕ → ℕ → ℕ) → List ℕ → List ℕ → ℕ → ℕ → Bool
 isTight E K m d x v = E x v && (eqb (getD m v 0) 2 && eqb (getD d x 0) (K x v + getD d v 0))
 
+-- the smallest number that such a step leads to, or n
 unfoldable pub hop : (ℕ → ℕ → Bool) → (ℕ → ℕ → ℕ) → ℕ → List ℕ → List ℕ → ℕ → ℕ
 hop E K n m d x = least (isTight E K m d x) n 0
 

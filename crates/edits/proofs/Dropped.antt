@@ -13,11 +13,10 @@ use Rattle.lists.proofs.Flat.{Uniform, length-pad}
 use Rattle.layout.specs.declared.Found.{Found}
 use Rattle.layout.specs.declared.Found.the-variants.{At, Nothing}
 use Rattle.layout.specs.declared.Answer.the-variants.{Done}
-use Rattle.layout.specs.Content.{vertexNumber, hyperedgeNumber, liveVertices, liveHyperedges, position}
+use Rattle.layout.specs.Content.{vertexNumber, hyperedgeNumber, liveVertices, liveHyperedges, position, noVertex, noHyperedge}
 use Rattle.layout.specs.Layout.{limit, vertexLimit, vertexSize, recordSize, verticesAt, hyperedgesAt, vertexCount, hyperedgeCount, vertexAt, hyperedgeAt, readVertices, readHyperedges, read, hyperedgeWords, words}
 use Rattle.layout.specs.WellFormed.{Formed}
 use Rattle.layout.specs.Answers.{result, vertexMissing, hyperedgeMissing}
-use Rattle.layout.proofs.Back.{noVertex, noHyperedge}
 use Rattle.layout.proofs.Position.{position-found}
 use Rattle.layout.proofs.Read.{live-hyperedges, live-ascends, vertex-found, hyperedge-found, members-le}
 use Rattle.layout.proofs.Words.{words-read}

@@ -8,9 +8,8 @@ use lib.ListN.{length, getD, set, take, drop, replicate, length-append, length-d
 use lib.Seq.{split-at, length-take-le, getD-take, take-at, drop-at, drop-drop}
 use Rattle.lists.specs.Lists.{flat, pad, shifted}
 use Rattle.lists.proofs.Flat.{flat-append, Uniform, flat-length, length-pad}
-use Rattle.layout.specs.Content.{Vertex, Hyperedge, Table}
+use Rattle.layout.specs.Content.{Vertex, Hyperedge, Table, noVertex, noHyperedge}
 use Rattle.layout.specs.Layout.{vertexLimit, hyperedgeLimit, vertexSize, recordSize, verticesAt, hyperedgesAt, vertexWords, hyperedgeWords, words}
-use Rattle.layout.proofs.Back.{noVertex, noHyperedge}
 
 -- ---- one of the records laid one after the other is taken out
 

@@ -1,4 +1,3 @@
-pub mod OverAt
 pub mod Stored
 pub mod Unchanged
 pub mod AddVertex

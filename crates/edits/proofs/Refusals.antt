@@ -15,9 +15,9 @@ use Rattle.layout.specs.Content.{Table, liveVertices}
 use Rattle.layout.specs.Layout.{limit, size, vertexCount, vertexAt, read}
 use Rattle.layout.specs.Answers.{Result, result, firstMissing, vertexMissing, onLiveVertices}
 use Rattle.layout.proofs.Answers.{on-first-missing, on-none-missing}
-use Rattle.edits.specs.declared.member_lists.Judged.{Judged}
-use Rattle.edits.specs.declared.member_lists.Judged.the-variants.{Refused, Fine}
-use Rattle.edits.specs.Records.{overAt}
+use Rattle.edits.specs.declared.member_lists.Judgement.{Judgement}
+use Rattle.edits.specs.declared.member_lists.Judgement.the-variants.{Refused, Fine}
+use Rattle.lists.specs.Lists.{overAt}
 use Rattle.edits.specs.Results.{lastNumber, onSome, onShort, onRoom, onNumber, clearResult, emptyResult}
 use Rattle.edits.specs.Stages.{onMembers, orElse, JudgedBy}
 use Rattle.edits.proofs.Stored.{zeros-all}
@@ -102,12 +102,12 @@ pub missing-within : (live ms : List ℕ) (p : Found) (i : ℕ) → p ≡ firstM
 missing-within live ms p i e h = on-first-missing live vertexMissing [] (result Full []) ms i (sym e ∙ h) .0
 
 -- j is what `judge_members` said
-module _ (j : Judged) (ms : List ℕ) (d : ℕ) (t : Table) (by : JudgedBy j ms d t) where
+module _ (j : Judgement) (ms : List ℕ) (d : ℕ) (t : Table) (by : JudgedBy j ms d t) where
   pub on-refused : (a : Answer) (lent : List ℕ) (r : Result) → j ≡ Refused a → result a lent ≡ onMembers ms d t lent r
-  on-refused a lent r h = ap (λ (k : Judged). orElse k lent r) (sym h) ∙ by .says lent r
+  on-refused a lent r h = ap (λ (k : Judgement). orElse k lent r) (sym h) ∙ by .says lent r
 
   pub on-fine : (lent : List ℕ) (r x : Result) → j ≡ Fine → x ≡ r → x ≡ onMembers ms d t lent r
-  on-fine lent r x h q = q ∙ ap (λ (k : Judged). orElse k lent r) (sym h) ∙ by .says lent r
+  on-fine lent r x h q = q ∙ ap (λ (k : Judgement). orElse k lent r) (sym h) ∙ by .says lent r
 
   pub fine-some : j ≡ Fine → 0 < length ms
   fine-some h = by .some h

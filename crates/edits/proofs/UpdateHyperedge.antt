@@ -8,7 +8,7 @@ use native.Mathlib.Omega.{arith}
 use lib.ListN.{length, getD, set}
 use lib.Seq.{set-getD}
 use borrow.Author.Tests.{eq-eqb, ne-eqb}
-use Rattle.lists.specs.Lists.{sameList}
+use Rattle.lists.specs.Lists.{sameList, overAt}
 use Rattle.lists.proofs.Cases.{on-same}
 use Rattle.lists.proofs.Tab.{map-tab, length-tab, getD-tab}
 use Rattle.lists.proofs.Ascend.{ascending-apart}
@@ -17,20 +17,19 @@ use Rattle.layout.specs.declared.Found.{Found}
 use Rattle.layout.specs.declared.Found.the-variants.{At, Nothing}
 use Rattle.layout.specs.declared.Answer.{Answer}
 use Rattle.layout.specs.declared.Answer.the-variants.{Done, SameMembers}
-use Rattle.layout.specs.Content.{Hyperedge, hyperedgeNumber, liveHyperedges, position, positionFrom}
+use Rattle.layout.specs.Content.{Hyperedge, hyperedgeNumber, liveHyperedges, position, positionFrom, hyperedgeOf, noHyperedge}
 use Rattle.layout.specs.Layout.{hyperedgeLimit, recordSize, hyperedgeWord, hyperedgeCount, membersAt, hyperedgeAt, readHyperedges, read, hyperedgeWords, words, limit}
 use Rattle.layout.specs.WellFormed.{Formed, hyperedgeColumn}
 use Rattle.layout.specs.Answers.{Result, result, hyperedgeMissing}
-use Rattle.layout.proofs.Back.{noHyperedge}
 use Rattle.layout.proofs.Read.{hyperedge-found}
 use Rattle.layout.proofs.Answers.{on-missing, on-found}
-use Rattle.edits.specs.declared.member_lists.Judged.{Judged}
-use Rattle.edits.specs.declared.member_lists.Judged.the-variants.{Refused, Fine}
+use Rattle.edits.specs.declared.member_lists.Judgement.{Judgement}
+use Rattle.edits.specs.declared.member_lists.Judgement.the-variants.{Refused, Fine}
 use Rattle.edits.specs.Edits.{withMembers, updateHyperedge}
-use Rattle.edits.specs.Records.{overAt, memberWords, putHyperedge, newHyperedge}
+use Rattle.edits.specs.Records.{memberWords, putHyperedge}
 use Rattle.edits.specs.Results.{membersOf, onChanged, updateResult}
 use Rattle.edits.specs.Stages.{JudgedBy, updateLiveResult, updateJudgedResult}
-use Rattle.edits.proofs.OverAt.{over-at-before, over-at-keep}
+use Rattle.lists.proofs.OverAt.{over-at-before, over-at-keep}
 use Rattle.edits.proofs.Unchanged.{record-within}
 use Rattle.edits.proofs.Refusals.{on-refused, on-fine}
 use Rattle.edits.proofs.Put.{put-words}
@@ -38,7 +37,7 @@ use Rattle.edits.proofs.Put.{put-words}
 module _ (L : ℕ) (ws : List ℕ) (j x : ℕ) (ms : List ℕ) (f : Formed L ws) (pos : 0 < length ms) (le : length ms ≤ L)
     (hj : j < hyperedgeCount ws) (ex : getD ws (hyperedgeWord L j) 0 ≡ x) where
   changed : Hyperedge
-  changed = newHyperedge (getD ws (hyperedgeWord L j) 0) (getD ws (hyperedgeWord L j + 1) 0) ms
+  changed = hyperedgeOf (getD ws (hyperedgeWord L j) 0) (getD ws (hyperedgeWord L j + 1) 0) ms
 
   -- only the record of number x
   alone : (i : ℕ) → i < hyperedgeCount ws → (i ≡ j → ⊥) → getD ws (hyperedgeWord L i) 0 ≡ x → ⊥
@@ -135,7 +134,7 @@ module _ (x : ℕ) (ms ws : List ℕ) (p : Found) (e : p ≡ position x (liveHyp
   update-live j y h q = q ∙ on-found (liveHyperedges (read limit ws)) hyperedgeMissing x ws _ p e j h
 
 -- j is what `judge_members` said
-module _ (x : ℕ) (ms ws : List ℕ) (j : Judged) (by : JudgedBy j ms x (read limit ws)) where
+module _ (x : ℕ) (ms ws : List ℕ) (j : Judgement) (by : JudgedBy j ms x (read limit ws)) where
   pub update-refused : (a : Answer) → j ≡ Refused a → result a ws ≡ updateResult x ms ws (read limit ws)
   unfolding updateResult
   update-refused a h = on-refused j ms x (read limit ws) by a ws _ h

@@ -29,6 +29,7 @@ addHyperedge ms w t = record {
 unfoldable pub withMembers : ℕ → List ℕ → Hyperedge → Hyperedge
 withMembers x ms e = cond (eqb (e .number) x) (record { number = e .number; weight = e .weight; members = ms }) e
 
+-- the list of hyperedge x becomes ms
 unfoldable pub updateHyperedge : ℕ → List ℕ → Table → Table
 updateHyperedge x ms t = record {
   nextVertex = t .nextVertex;
@@ -41,9 +42,11 @@ updateHyperedge x ms t = record {
 unfoldable pub without : ℕ → Hyperedge → Hyperedge
 without v e = record { number = e .number; weight = e .weight; members = filter (otherThan itself v) (e .members) }
 
+-- the list is not empty
 unfoldable pub hasMembers : Hyperedge → Bool
 hasMembers e = ltb 0 (length (e .members))
 
+-- the vertex gone, and gone from every list
 unfoldable pub removeVertex : ℕ → Table → Table
 removeVertex v t = record {
   nextVertex = t .nextVertex;
@@ -52,6 +55,7 @@ removeVertex v t = record {
   hyperedges = filter hasMembers (map (without v) (t .hyperedges));
 }
 
+-- the hyperedge gone
 unfoldable pub removeHyperedge : ℕ → Table → Table
 removeHyperedge x t = record {
   nextVertex = t .nextVertex;

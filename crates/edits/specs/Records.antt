@@ -1,14 +1,10 @@
 -- What the edits store in a table's words. Assumes nothing.
-use mathlib.Core.List.{List, _∷_, _++_}
+use mathlib.Core.List.{List, _∷_}
 use Prim.Native.Nat.{ℕ, _+_}
-use lib.ListN.{length, set, take, drop}
-use Rattle.lists.specs.Lists.{over, pad}
+use lib.ListN.{length, set}
+use Rattle.lists.specs.Lists.{pad}
 use Rattle.layout.specs.Content.{Hyperedge}
 use Rattle.layout.specs.Layout.{vertexWord, hyperedgeWord, hyperedgeWords}
-
--- xs written over the words from a on; the others are kept
-unfoldable pub overAt : ℕ → List ℕ → List ℕ → List ℕ
-overAt a xs ws = take a ws ++ over xs (drop a ws)
 
 -- a member list as a record has it: its count, its members, 0 up to L of them
 abbrev pub memberWords : ℕ → List ℕ → List ℕ
@@ -21,6 +17,3 @@ putVertex n x w ws = set (set (set (set ws (vertexWord n) x) (vertexWord n + 1) 
 -- hyperedge e at place j, x the next hyperedge number and m the count
 abbrev pub putHyperedge : ℕ → ℕ → Hyperedge → ℕ → ℕ → List ℕ → List ℕ
 putHyperedge L j e x m ws = set (set (overAt (hyperedgeWord L j) (hyperedgeWords L e) ws) 1 x) 3 m
-
-abbrev pub newHyperedge : ℕ → ℕ → List ℕ → Hyperedge
-newHyperedge x w ms = record { number = x; weight = w; members = ms }

@@ -10,8 +10,8 @@ use Rattle.layout.specs.declared.Answer.the-variants.{Done}
 use Rattle.layout.specs.Content.{Hyperedge, Table}
 use Rattle.layout.specs.Layout.{limit, hyperedgeLimit, words}
 use Rattle.layout.specs.Answers.{Result, result, onLiveVertices, onLiveHyperedge}
-use Rattle.edits.specs.declared.member_lists.Judged.{Judged}
-use Rattle.edits.specs.declared.member_lists.Judged.the-variants.{Refused, Fine}
+use Rattle.edits.specs.declared.member_lists.Judgement.{Judgement}
+use Rattle.edits.specs.declared.member_lists.Judgement.the-variants.{Refused, Fine}
 use Rattle.edits.specs.Edits.{addHyperedge, updateHyperedge}
 use Rattle.edits.specs.Results.{onSome, onShort, onRoom, onNumber, identical, onNew, onChanged}
 
@@ -20,12 +20,12 @@ abbrev pub onMembers : List ℕ → ℕ → Table → List ℕ → Result → Re
 onMembers ms d t lent r = onSome ms d lent (onShort ms lent (onLiveVertices t ms lent r))
 
 -- the answer that refuses a member list, or what comes after
-abbrev pub orElse : Judged → List ℕ → Result → Result
+abbrev pub orElse : Judgement → List ℕ → Result → Result
 orElse (Refused a) lent r = result a lent
 orElse Fine lent r = r
 
 -- j is what 2, 6 and 3 say of the list
-pub record JudgedBy (j : Judged) (ms : List ℕ) (d : ℕ) (t : Table) : Type 0 where
+pub record JudgedBy (j : Judgement) (ms : List ℕ) (d : ℕ) (t : Table) : Type 0 where
   pub says : (lent : List ℕ) (r : Result) → orElse j lent r ≡ onMembers ms d t lent r
   pub some : j ≡ Fine → 0 < length ms
   pub short : j ≡ Fine → length ms ≤ limit

@@ -6,9 +6,10 @@ ghost use Rattle.layout.specs.Layout.{limit, hyperedgeLimit, size, hyperedgeCou
 ghost use Rattle.layout.specs.WellFormed.{Formed};
 ghost use Rattle.layout.specs.Answers.{onFormed, result};
 ghost use Rattle.edits.specs.Results.{lastNumber, identical, addHyperedgeResult};
-ghost use Rattle.edits.specs.Records.{newHyperedge, putHyperedge};
+ghost use Rattle.layout.specs.Content.{hyperedgeOf};
+ghost use Rattle.edits.specs.Records.{putHyperedge};
 ghost use Rattle.edits.specs.Stages.{firstIdentical, addNewResult, addJudgedResult};
-use crate::member_lists::Judged;
+use crate::member_lists::Judgement;
 use crate::member_lists::judge_members;
 use crate::member_lists::same_members;
 use crate::records::LAST_NUMBER;
@@ -19,7 +20,7 @@ use layout::Found;
 // Stores a hyperedge of number x at place m, and counts it.
 fn put_hyperedge(t: &mut [u32], m: usize, x: u32, weight: u32, members: &[u32])
     requires { ⌜ (length (now t) ≡ size limit) × ((m < hyperedgeLimit) × ((x < lastNumber) × (length (now members) ≤ limit))) ⌝ }
-    ensures { λ _. ⌜ now (t .exit) ≡ putHyperedge limit m (newHyperedge x weight (now (members .entry))) (x + 1) (m + 1) (now (t .entry)) ⌝ }
+    ensures { λ _. ⌜ now (t .exit) ≡ putHyperedge limit m (hyperedgeOf x weight (now (members .entry))) (x + 1) (m + 1) (now (t .entry)) ⌝ }
 {
     let a = layout::HYPEREDGES_AT + m * layout::RECORD_SIZE;
     t[a] = x;
@@ -96,8 +97,8 @@ fn add_formed(t: &mut [u32], members: &[u32], weight: u32) -> Answer
 {
     let f = judge_members(t, members, weight);
     match f {
-        Judged::Refused(a) => a,
-        Judged::Fine => add_judged(t, members, weight),
+        Judgement::Refused(a) => a,
+        Judgement::Fine => add_judged(t, members, weight),
     }
 }
 

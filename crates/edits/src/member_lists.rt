@@ -9,29 +9,29 @@ use layout::Found;
 use layout::VertexIndex;
 
 // What speaks against a member list: the answer that refuses it, or nothing.
-pub enum Judged {
+pub enum Judgement {
     Refused(Answer),
     Fine,
 }
 
 // Tests 2, 6 and 3, in this order; d is the detail of 2.
-pub fn judge_members(t: &[u32], members: &[u32], d: u32) -> Judged
+pub fn judge_members(t: &[u32], members: &[u32], d: u32) -> Judgement
     requires { ⌜ Formed limit (now t) ⌝ }
     ensures { λ r. ⌜ JudgedBy r (now (members .entry)) d (read limit (now (t .entry))) ⌝ }
 {
     if members.len() == 0 {
-        return Judged::Refused(Answer::NoMembers(d));
+        return Judgement::Refused(Answer::NoMembers(d));
     }
     if layout::MEMBER_LIMIT < members.len() {
-        return Judged::Refused(Answer::TooManyMembers(members.len()));
+        return Judgement::Refused(Answer::TooManyMembers(members.len()));
     }
     let f = layout::first_missing_vertex(t, members);
     match f {
         Found::At(i) => {
             let v = members[i];
-            Judged::Refused(Answer::VertexNotLive(VertexIndex(v)))
+            Judgement::Refused(Answer::VertexNotLive(VertexIndex(v)))
         }
-        Found::Nothing => Judged::Fine,
+        Found::Nothing => Judgement::Fine,
     }
 }
 

@@ -3,7 +3,8 @@ ghost use mathlib.Core.Path.{_≡_};
 ghost use Prim.Native.Nat.{_+_, _≤_, _<_};
 ghost use lib.ListN.{length, replicate};
 ghost use Rattle.layout.specs.Layout.{limit, hyperedgeLimit, size, hyperedgeWord};
-ghost use Rattle.edits.specs.Records.{overAt, memberWords};
+ghost use Rattle.lists.specs.Lists.{overAt};
+ghost use Rattle.edits.specs.Records.{memberWords};
 
 // The number that is never given.
 pub const LAST_NUMBER: u32 = 4294967295;

@@ -9,7 +9,7 @@ ghost use Rattle.layout.specs.WellFormed.{Formed};
 ghost use Rattle.layout.specs.Answers.{onFormed, result};
 ghost use Rattle.edits.specs.Results.{updateResult};
 ghost use Rattle.edits.specs.Stages.{updateLiveResult, updateJudgedResult};
-use crate::member_lists::Judged;
+use crate::member_lists::Judgement;
 use crate::member_lists::judge_members;
 use crate::member_lists::same_members;
 use crate::records::put_members;
@@ -51,8 +51,8 @@ fn update_formed(t: &mut [u32], e: HyperedgeIndex, members: &[u32]) -> Answer
 {
     let f = judge_members(t, members, e.0);
     match f {
-        Judged::Refused(a) => a,
-        Judged::Fine => update_judged(t, e, members),
+        Judgement::Refused(a) => a,
+        Judgement::Fine => update_judged(t, e, members),
     }
 }
 

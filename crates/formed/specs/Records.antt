@@ -6,6 +6,7 @@ use Rattle.lists.specs.Lists.{all, isBelow}
 use Rattle.layout.specs.Content.{membersLive}
 use Rattle.layout.specs.Layout.{membersAt, hyperedgeAt}
 
+-- every member of hyperedge record j is live
 unfoldable pub recordLive : ℕ → List ℕ → List ℕ → ℕ → Bool
 recordLive L live ws j = membersLive live (hyperedgeAt L ws j)
 

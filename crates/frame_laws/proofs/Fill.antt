@@ -16,12 +16,11 @@ use Rattle.lists.proofs.Ascend.{ascending-of}
 use Rattle.lists.proofs.Tab.{tab-ext, length-tab, getD-tab, map-tab}
 use Rattle.lists.proofs.Memb.{memb-getD}
 use mathlib.Core.Logic.{⊎-elim}
-use Rattle.layout.specs.Content.{Vertex, Hyperedge, Table, vertexNumber, hyperedgeNumber, liveVertices, isLive, numbered, membersLive}
+use Rattle.layout.specs.Content.{Vertex, Hyperedge, Table, vertexNumber, hyperedgeNumber, liveVertices, isLive, numbered, membersLive, vertexOf, hyperedgeOf, noVertex, noHyperedge}
 use Rattle.layout.specs.Layout.{vertexLimit, hyperedgeLimit, limit}
 use Rattle.layout.specs.WellFormed.{countFits}
-use Rattle.layout.proofs.Back.{noVertex, noHyperedge}
 use Rattle.layout.proofs.Holdable.{Holdable}
-use Rattle.frames.specs.Frames.{headLine, vertexLine, hyperedgeLine, hyperedgeLength, vertexOf, hyperedgeOf}
+use Rattle.frames.specs.Frames.{headLine, vertexLine, hyperedgeLine, hyperedgeLength}
 use Rattle.frames.specs.Reading.{standsAt, nextVertexOf, nextHyperedgeOf, verticesDue, hyperedgesDue, vertexPlace, weightIn, countIn, memberIn, vertexIn, hyperedgePlace, hyperedgeIn, contentOf, headGood, climbsTo, numberGood, vertexNumberIn, hyperedgeNumberIn, vertexGood, hyperedgeGood}
 use Rattle.frames.specs.Faulty.{isWord}
 use Rattle.frame_laws.proofs.Rows.{rowAt, placeAt, Agrees, row-vertex, row-hyperedge, vertex-place, hyperedge-next}

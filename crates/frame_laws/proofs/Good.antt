@@ -15,10 +15,9 @@ use Rattle.lists.proofs.All.{all-at}
 use Rattle.lists.proofs.Tab.{tab-ext}
 use Rattle.lists.proofs.Flat.{tab-getD}
 use Rattle.lists.proofs.Maps.{map-length}
-use Rattle.layout.specs.Content.{Table, vertexNumber, hyperedgeNumber, liveVertices, liveHyperedges, numbered, membersLive}
+use Rattle.layout.specs.Content.{Table, vertexNumber, hyperedgeNumber, liveVertices, liveHyperedges, numbered, membersLive, noVertex, noHyperedge}
 use Rattle.layout.specs.Layout.{vertexLimit, hyperedgeLimit, limit}
 use Rattle.layout.specs.WellFormed.{countFits}
-use Rattle.layout.proofs.Back.{noVertex, noHyperedge}
 use Rattle.layout.proofs.Read.{numbered-ascends}
 use Rattle.layout.proofs.Holdable.{Holdable, members-le}
 use Rattle.frames.specs.Frames.{headLine, hyperedgeLine}

@@ -15,10 +15,9 @@ use Rattle.lists.proofs.All.{all-at, all-of}
 use Rattle.lists.proofs.Tab.{length-tab, getD-tab}
 use Rattle.lists.proofs.Maps.{map-length}
 use Rattle.lists.proofs.Memb.{memb-at}
-use Rattle.layout.specs.Content.{Table, vertexNumber, liveVertices, isLive, numbered, membersLive}
+use Rattle.layout.specs.Content.{Table, vertexNumber, liveVertices, isLive, numbered, membersLive, noVertex, noHyperedge}
 use Rattle.layout.specs.Layout.{vertexLimit, hyperedgeLimit, vertexSize, recordSize, limit, vertexAt, hyperedgeAt, vertexCount, hyperedgeCount, hyperedgeWord, countAt, read, vertexWords, hyperedgeWords, words, vertexWord}
 use Rattle.layout.proofs.Holdable.{Holdable, members-le, members-pos}
-use Rattle.layout.proofs.Back.{noVertex, noHyperedge}
 use Rattle.layout.proofs.Read.{numbered-ascends, numbered-below}
 use Rattle.frames.specs.Faulty.{isWord}
 use Rattle.frame_laws.proofs.Standing.{wordValues}

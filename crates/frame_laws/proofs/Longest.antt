@@ -12,12 +12,12 @@ use Rattle.lists.proofs.Cases.{on-below, and-both}
 use Rattle.lists.proofs.All.{all-of}
 use Rattle.lists.proofs.Tab.{length-tab, getD-tab, map-tab}
 use Rattle.lists.proofs.Memb.{memb-getD}
-use Rattle.layout.specs.Content.{Hyperedge, Table, vertexNumber, hyperedgeNumber, liveVertices, isLive, membersLive}
+use Rattle.layout.specs.Content.{Hyperedge, Table, vertexNumber, hyperedgeNumber, liveVertices, isLive, membersLive, vertexOf, hyperedgeOf, noVertex, noHyperedge}
 use Rattle.layout.specs.Layout.{vertexLimit, hyperedgeLimit, limit, read}
 use Rattle.layout.specs.WellFormed.{countFits}
-use Rattle.layout.proofs.Back.{noVertex, noHyperedge, read-holdable}
+use Rattle.layout.proofs.Back.{read-holdable}
 use Rattle.layout.proofs.Holdable.{Holdable, holdable-of, members-le}
-use Rattle.frames.specs.Frames.{vertexOf, hyperedgeOf, hyperedgeLength, frameText}
+use Rattle.frames.specs.Frames.{hyperedgeLength, frameText}
 use Rattle.frames.specs.Reading.{vertexPlace, accepted}
 use Rattle.frames.specs.Faulty.{Written}
 use Rattle.frame_laws.specs.Longest.{longest}

@@ -14,8 +14,7 @@ use Rattle.lists.specs.Lists.{memb, tab, flat}
 use Rattle.lists.proofs.Cases.{on}
 use Rattle.lists.proofs.Tab.{tab-suc, tab-ext, length-tab}
 use Rattle.lists.proofs.Flat.{flat-append, flat-snoc, tab-getD}
-use Rattle.layout.specs.Content.{Vertex, Table}
-use Rattle.layout.proofs.Back.{noVertex, noHyperedge}
+use Rattle.layout.specs.Content.{Vertex, Table, noVertex, noHyperedge}
 use Rattle.frames.specs.Frames.{headFrame, vertexFrame, headLine, vertexLine, hyperedgeLine, frameText, numberBytes, shortBytes, sealed, byteDigits, digits, line, vertexLength, hyperedgeLength}
 use Rattle.frames.specs.Reading.{standsAt, vertexPlace}
 use Rattle.frames.specs.Faulty.{linesOf}

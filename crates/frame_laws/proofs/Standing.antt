@@ -12,8 +12,8 @@ use Rattle.lists.specs.Lists.{all, tab, flat}
 use Rattle.lists.proofs.Cases.{and-left, and-right, and-both}
 use Rattle.lists.proofs.Tab.{tab-ext}
 use Rattle.lists.proofs.Flat.{flat-append}
-use Rattle.layout.specs.Content.{Vertex, Hyperedge, Table}
-use Rattle.frames.specs.Frames.{byteValues, byteOf, numberBytes, shortBytes, headFrame, vertexFrame, hyperedgeFrame, check, sealed, byteDigits, digits, lineFeed, line, headLine, vertexLine, hyperedgeLine, vertexOf}
+use Rattle.layout.specs.Content.{Vertex, Hyperedge, Table, vertexOf}
+use Rattle.frames.specs.Frames.{byteValues, byteOf, numberBytes, shortBytes, headFrame, vertexFrame, hyperedgeFrame, check, sealed, byteDigits, digits, lineFeed, line, headLine, vertexLine, hyperedgeLine}
 use Rattle.frames.specs.Reading.{byteAt, shortAt, numberAt, standsAt, nextVertexOf, nextHyperedgeOf, verticesDue, hyperedgesDue, numberIn, weightIn, countIn, memberIn, hyperedgeFrom}
 use Rattle.frames.specs.Bytes.{bytesAt}
 use Rattle.frames.specs.Faulty.{isWord}

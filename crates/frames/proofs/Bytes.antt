@@ -1,5 +1,5 @@
 -- Bytes as digits: where they are put, and their sums. Assumes nothing.
-use mathlib.Core.Path.{_≡_, refl, _∙_}
+use mathlib.Core.Path.{_≡_, refl, sym, _∙_}
 use mathlib.Core.Bool.{Bool, true}
 use mathlib.Core.Logic.{_⊎_, ⊎-elim}
 use mathlib.Core.List.{List, [], _∷_, _++_, append-assoc}
@@ -9,13 +9,14 @@ use native.Mathlib.Numerals.{add-one}
 use native.Mathlib.Omega.{arith}
 use lib.Dec.{eqb}
 use lib.ListN.{length, getD, set, take, drop, length-set}
-use lib.Seq.{getD-set-same, getD-set-other, sets-eq, paste, paste-suc, take-length}
+use lib.Seq.{getD-set-same, getD-set-other, paste, paste-suc, take-length}
 use borrow.Author.Tests.{eqb-true}
 use Rattle.lists.specs.Tests.{_and_, every}
-use Rattle.lists.specs.Lists.{flat}
+use Rattle.lists.specs.Lists.{flat, sum}
 use Rattle.lists.proofs.Every.{every-at}
+use Rattle.lists.proofs.OverAt.{over-at-split, over-at-pair}
 use Rattle.frames.specs.Frames.{byteValues, byteOf, numberBytes, shortBytes, byteSum, balance, digit, byteDigits, digits, numberDigits, lineFeed}
-use Rattle.frames.specs.Put.{pasted, Put}
+use Rattle.frames.specs.Put.{Put}
 use Rattle.frames.specs.Pairs.{Pairs}
 use Rattle.frames.proofs.Laws.{put-append, put-as}
 
@@ -73,13 +74,12 @@ pairs-end b ps p h l = rw (← le-antisymm h l) p
 -- ps holds the digits of every byte
 pub byte-put : (at b : ℕ) (ps text : List ℕ) → Pairs byteValues ps → b < byteValues → at + 2 ≤ length text
     → Put at 2 (byteDigits b) text (set (set text at (getD ps (b * 2) 0)) (at + 1) (getD ps (b * 2 + 1) 0)) (at + 2)
-unfolding byteDigits pasted
+unfolding byteDigits
 byte-put at b ps text p h f = record {
   sized = refl;
   fits = f;
   reached = refl;
-  wrote = rw (p .high b h, p .low b h, add-one at)
-      (sets-eq (digit (b / 16) ∷ digit (b % 16) ∷ []) text at f ∙ append-assoc (take at text) (digit (b / 16) ∷ digit (b % 16) ∷ []) (drop (at + 2) text));
+  wrote = rw (p .high b h, p .low b h) (over-at-pair text at (digit (b / 16)) (digit (b % 16)) f);
 }
 
 -- b is the byte k
@@ -93,10 +93,9 @@ module _ (d text : List ℕ) (at : ℕ) (s : List ℕ) (j : ℕ) (e : text ≡ p
   copied-more f h = rw (e, add-one j) (paste-suc d at s j 0 (omega arith) h)
 
   pub copied-end : at + length s ≤ length d → j ≤ length s → length s ≤ j → Put at (length s) s d text (at + j)
-  unfolding pasted
   copied-end f a b =
       let q : j ≡ length s = le-antisymm a b in
-      record { sized = refl; fits = f; reached = rw q; wrote = e ∙ rw (q, take-length) (append-assoc (take at d) s (drop (at + length s) d)) }
+      record { sized = refl; fits = f; reached = rw q; wrote = e ∙ rw (q, take-length) (append-assoc (take at d) s (drop (at + length s) d) ∙ sym (over-at-split at s d)) }
 
 -- ---- numbers; w is what `wide` made of x
 
@@ -111,12 +110,12 @@ unfolding numberDigits digits flat numberBytes byteDigits
 number-put x w i f g h k = put-as refl (rw i) (put-append f (put-append g (put-append h k)))
 
 pub short-sum-is : (x a b : ℕ) → a ≡ byteOf x byteValues → b ≡ byteOf x 1 → (a + b ≡ byteSum (shortBytes x)) × (a + b ≤ 510)
-unfolding byteSum shortBytes
+unfolding sum shortBytes
 short-sum-is x a b p q = (omega arith, omega arith)
 
 pub number-sum-is : (x w a b c d : ℕ) → w ≡ x → a ≡ byteOf w 16777216 → b ≡ byteOf w 65536 → c ≡ byteOf w byteValues → d ≡ byteOf w 1
     → (a + b + c + d ≡ byteSum (numberBytes x)) × (a + b + c + d ≤ 1020)
-unfolding byteSum numberBytes
+unfolding sum numberBytes
 number-sum-is x w a b c d e p q r s = (rw (p, q, r, s, e) (omega arith), omega arith)
 
 -- ---- the last byte of a frame, and the line feed; b is what `balance` made of the sum

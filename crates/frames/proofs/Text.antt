@@ -11,13 +11,13 @@ use Rattle.lists.specs.Lists.{tab, flat}
 use Rattle.lists.proofs.Tab.{length-tab}
 use Rattle.lists.proofs.Flat.{flat-length, flat-suc, flat-more}
 use Rattle.layout.specs.declared.Answer.the-variants.{Done, NoRoom}
-use Rattle.layout.specs.Content.{Vertex, Hyperedge, Table}
+use Rattle.layout.specs.Content.{Vertex, Hyperedge, Table, vertexOf, hyperedgeOf}
 use Rattle.layout.specs.Layout.{nextVertexIn, nextHyperedgeIn, vertexCount, hyperedgeCount, vertexAt, membersAt, hyperedgeAt, read}
 use Rattle.layout.specs.WellFormed.{Formed}
 use Rattle.layout.specs.Answers.{result}
 use Rattle.layout.proofs.Answers.{listed-over, listed-fits}
 use Rattle.layout.proofs.Read.{members-le}
-use Rattle.frames.specs.Frames.{numberBytes, shortBytes, headFrame, vertexFrame, hyperedgeFrame, check, sealed, byteDigits, digits, line, headLine, vertexLine, hyperedgeLine, frameText, vertexOf, hyperedgeOf, headLength, vertexLength, memberLength, hyperedgeLength, writeResult}
+use Rattle.frames.specs.Frames.{numberBytes, shortBytes, headFrame, vertexFrame, hyperedgeFrame, check, sealed, byteDigits, digits, line, headLine, vertexLine, hyperedgeLine, frameText, headLength, vertexLength, memberLength, hyperedgeLength, writeResult}
 use Rattle.frames.specs.Put.{Put}
 use Rattle.frames.proofs.Laws.{put-length, put-append, put-as, put-over}
 use Rattle.frames.proofs.Lines.{put-none}

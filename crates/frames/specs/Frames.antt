@@ -4,7 +4,7 @@ use mathlib.Core.List.{List, [], _∷_, _++_}
 use Prim.Native.Nat.{ℕ, _+_, _-_, _*_, _/_, _%_}
 use lib.Dec.{ltb}
 use lib.ListN.{length}
-use Rattle.lists.specs.Lists.{flat}
+use Rattle.lists.specs.Lists.{itself, sum, flat}
 use Rattle.layout.specs.Content.{Vertex, Hyperedge, Table}
 use Rattle.layout.specs.Answers.{Result, listed}
 
@@ -42,9 +42,9 @@ unfoldable pub hyperedgeFrame : Hyperedge → List ℕ
 hyperedgeFrame e =
     2 ∷ (numberBytes (e .number) ++ (numberBytes (e .weight) ++ (length (e .members) ∷ flat numberBytes (e .members))))
 
-unfoldable pub byteSum : List ℕ → ℕ
-byteSum [] = 0
-byteSum (b ∷ bs) = b + byteSum bs
+-- the byte sum
+abbrev pub byteSum : List ℕ → ℕ
+byteSum bs = sum itself bs
 
 -- the byte that makes a byte sum 0 modulo 256
 unfoldable pub balance : ℕ → ℕ
@@ -54,6 +54,7 @@ balance sum = (byteValues - sum % byteValues) % byteValues
 unfoldable pub check : List ℕ → ℕ
 check frame = balance (byteSum frame)
 
+-- a frame with its last byte
 unfoldable pub sealed : List ℕ → List ℕ
 sealed frame = frame ++ (check frame ∷ [])
 
@@ -61,12 +62,15 @@ sealed frame = frame ++ (check frame ∷ [])
 unfoldable pub digit : ℕ → ℕ
 digit k = cond (ltb k 10) (48 + k) (55 + k)
 
+-- a byte in two digits, high first
 unfoldable pub byteDigits : ℕ → List ℕ
 byteDigits b = digit (b / 16) ∷ digit (b % 16) ∷ []
 
+-- bytes in digits
 unfoldable pub digits : List ℕ → List ℕ
 digits bs = flat byteDigits bs
 
+-- a number in digits
 unfoldable pub numberDigits : ℕ → List ℕ
 numberDigits x = digits (numberBytes x)
 
@@ -91,6 +95,7 @@ memberLength = 8
 abbrev pub hyperedgeLength : ℕ → ℕ
 hyperedgeLength k = 23 + k * memberLength
 
+-- the lines of the head, of a vertex, of a hyperedge
 unfoldable pub headLine : Table → List ℕ
 headLine t = line (headFrame (t .nextVertex) (t .nextHyperedge) (length (t .vertices)) (length (t .hyperedges)))
 
@@ -100,16 +105,10 @@ vertexLine v = line (vertexFrame v)
 unfoldable pub hyperedgeLine : Hyperedge → List ℕ
 hyperedgeLine e = line (hyperedgeFrame e)
 
--- a vertex and a hyperedge from their parts
-abbrev pub vertexOf : ℕ → ℕ → Vertex
-vertexOf number weight = record { number = number; weight = weight }
-
-abbrev pub hyperedgeOf : ℕ → ℕ → List ℕ → Hyperedge
-hyperedgeOf number weight members = record { number = number; weight = weight; members = members }
-
+-- the text of a content: the head, the vertices, the hyperedges
 unfoldable pub frameText : Table → List ℕ
 frameText t = headLine t ++ (flat vertexLine (t .vertices) ++ flat hyperedgeLine (t .hyperedges))
 
--- writing frames: 11 where the text is longer than the lent slice; else the text from the front
+-- write_frames: 1, 11 where the text is longer than the lent slice; else the text from the front
 unfoldable pub writeResult : List ℕ → Table → Result
 writeResult text t = listed (frameText t) text

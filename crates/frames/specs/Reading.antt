@@ -7,11 +7,11 @@ use lib.ListN.{length, getD, take, drop}
 use Rattle.lists.specs.Tests.{_and_}
 use Rattle.lists.specs.Lists.{sameList, tab}
 use Rattle.layout.specs.declared.Answer.the-variants.{Done, NotWellFormed, BadText}
-use Rattle.layout.specs.Content.{Vertex, Hyperedge, Table, liveVertices, membersLive}
+use Rattle.layout.specs.Content.{Vertex, Hyperedge, Table, liveVertices, membersLive, vertexOf, hyperedgeOf}
 use Rattle.layout.specs.Layout.{vertexLimit, hyperedgeLimit, limit, size, words}
 use Rattle.layout.specs.WellFormed.{countFits}
 use Rattle.layout.specs.Answers.{Result, result}
-use Rattle.frames.specs.Frames.{byteValues, vertexOf, hyperedgeOf, headFrame, line, vertexLine, hyperedgeLine, headLength, vertexLength, memberLength, hyperedgeLength}
+use Rattle.frames.specs.Frames.{byteValues, headFrame, line, vertexLine, hyperedgeLine, headLength, vertexLength, memberLength, hyperedgeLength}
 
 -- ---- what stands in a text
 
@@ -64,6 +64,7 @@ countIn text p = byteAt text (p + 18)
 abbrev pub memberIn : List ℕ → ℕ → ℕ → ℕ
 memberIn text p k = numberAt text (p + 20 + k * memberLength)
 
+-- vertex i, as its line says
 abbrev pub vertexIn : List ℕ → ℕ → Vertex
 vertexIn text i = vertexOf (numberIn text (vertexPlace i)) (weightIn text (vertexPlace i))
 
@@ -72,9 +73,11 @@ unfoldable pub hyperedgePlace : List ℕ → ℕ → ℕ
 hyperedgePlace text zero = vertexPlace (verticesDue text)
 hyperedgePlace text (suc j) = let p = hyperedgePlace text j in p + hyperedgeLength (countIn text p)
 
+-- a hyperedge, as the line at p says
 abbrev pub hyperedgeFrom : List ℕ → ℕ → Hyperedge
 hyperedgeFrom text p = hyperedgeOf (numberIn text p) (weightIn text p) (tab (memberIn text p) (countIn text p))
 
+-- hyperedge j
 abbrev pub hyperedgeIn : List ℕ → ℕ → Hyperedge
 hyperedgeIn text j = hyperedgeFrom text (hyperedgePlace text j)
 
@@ -162,7 +165,7 @@ accepted text = eqb (goodLines text) (linesDue text) and eqb (length text) (hype
 unfoldable pub faultyLine : List ℕ → ℕ
 faultyLine text = suc (goodLines text)
 
--- 1 only for a wrong length; 12 with the line, which changes no word; else the words of the text's content
+-- read_frames: 1 only for a wrong length; 12 with the line, which changes no word; else the words of the text's content
 unfoldable pub readResult : List ℕ → List ℕ → Result
 readResult text lent =
     cond (eqb (length lent) (size limit))

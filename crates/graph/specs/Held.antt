@@ -11,6 +11,7 @@ use Rattle.lists.specs.Tests.{bit, chosen}
 abbrev pub Marks : ℕ → List ℕ → List ℕ → Type 0
 Marks n m q = (j : ℕ) → j < n → getD m j 0 ≡ bit (memb j q)
 
+-- the queue and its marks
 pub record Held (n : ℕ) (m o : List ℕ) (t : ℕ) (q : List ℕ) : Type 0 where
   pub wide : length m ≡ 256
   pub long : length o ≡ 256
@@ -29,6 +30,7 @@ pub record Rest (n t : ℕ) (r q : List ℕ) : Type 0 where
   pub long : length r ≡ 256
   pub is : take (n - t) r ≡ chosen (outside q) n
 
+-- the queue, its marks, and the numbers outside it
 pub record Queued (n : ℕ) (m o r : List ℕ) (t : ℕ) (q : List ℕ) : Type 0 where
   pub held : Held n m o t q
   pub rest : Rest n t r q

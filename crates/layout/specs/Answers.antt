@@ -13,6 +13,7 @@ use Rattle.layout.specs.Content.{Table, liveVertices, liveHyperedges, is
 use Rattle.layout.specs.Layout.{limit, read}
 use Rattle.layout.specs.WellFormed.{wellFormed}
 
+-- the number of each answer, by the table of answer numbers
 abbrev pub number : Answer → ℕ
 number (Done d) = 0
 number NotWellFormed = 1
@@ -28,6 +29,7 @@ number TooFewHyperedges = 10
 number (NoRoom k) = 11
 number (BadText line) = 12
 
+-- the detail of each answer, by the same table
 abbrev pub detail : Answer → ℕ
 detail (Done d) = d
 detail NotWellFormed = 0
@@ -49,10 +51,11 @@ pub record Result : Type 0 where
   pub detail : ℕ
   pub lent : List ℕ
 
+-- an answer, and what it leaves in the lent slice
 abbrev pub result : Answer → List ℕ → Result
 result a lent = record { number = number a; detail = detail a; lent = lent }
 
--- 1 before all else; then what f says of the content
+-- 1: table not well formed, before all else; then what f says of the content
 unfoldable pub onFormed : List ℕ → List ℕ → (Table → Result) → Result
 onFormed ws lent f = cond (wellFormed limit ws) (f (read limit ws)) (result NotWellFormed lent)
 
@@ -69,23 +72,26 @@ unfoldable pub onLive : List ℕ → (ℕ → Answer) → List ℕ → List ℕ 
 onLive live refusal [] lent r = r
 onLive live refusal (x ∷ xs) lent r = cond (isLive live x) (onLive live refusal xs lent r) (result (refusal x) lent)
 
+-- the refusals that name a missing vertex, and a missing hyperedge
 abbrev pub vertexMissing : ℕ → Answer
 vertexMissing v = VertexNotLive (record { 0 = v })
 
 abbrev pub hyperedgeMissing : ℕ → Answer
 hyperedgeMissing e = HyperedgeNotLive (record { 0 = e })
 
--- 3
+-- 3: vertex not live, the first missing one
 abbrev pub onLiveVertices : Table → List ℕ → List ℕ → Result → Result
 onLiveVertices t vs lent r = onLive (liveVertices t) vertexMissing vs lent r
 
+-- 3, for one vertex
 abbrev pub onLiveVertex : Table → ℕ → List ℕ → Result → Result
 onLiveVertex t v lent r = onLiveVertices t (v ∷ []) lent r
 
--- 4
+-- 4: hyperedge not live, the first missing one
 abbrev pub onLiveHyperedges : Table → List ℕ → List ℕ → Result → Result
 onLiveHyperedges t es lent r = onLive (liveHyperedges t) hyperedgeMissing es lent r
 
+-- 4, for one hyperedge
 abbrev pub onLiveHyperedge : Table → ℕ → List ℕ → Result → Result
 onLiveHyperedge t e lent r = onLiveHyperedges t (e ∷ []) lent r
 

@@ -19,17 +19,36 @@ pub record Hyperedge : Type 0 where
   pub weight : ℕ
   pub members : List ℕ
 
+-- a vertex and a hyperedge from their parts, and ones of no use
+abbrev pub vertexOf : ℕ → ℕ → Vertex
+vertexOf number weight = record { number = number; weight = weight }
+
+abbrev pub hyperedgeOf : ℕ → ℕ → List ℕ → Hyperedge
+hyperedgeOf number weight members = record { number = number; weight = weight; members = members }
+
+abbrev pub noVertex : Vertex
+noVertex = vertexOf 0 0
+
+abbrev pub noHyperedge : Hyperedge
+noHyperedge = hyperedgeOf 0 0 []
+
+-- what a table holds: both next numbers, and the live vertices and hyperedges
 pub record Table : Type 0 where
   pub nextVertex : ℕ
   pub nextHyperedge : ℕ
   pub vertices : List Vertex
   pub hyperedges : List Hyperedge
 
+-- the number of a vertex, and of a hyperedge
 abbrev pub vertexNumber : Vertex → ℕ
 vertexNumber v = v .number
 
 abbrev pub hyperedgeNumber : Hyperedge → ℕ
 hyperedgeNumber e = e .number
+
+-- the weight of a hyperedge
+abbrev pub hyperedgeWeight : Hyperedge → ℕ
+hyperedgeWeight e = e .weight
 
 -- the numbers of the live vertices and of the live hyperedges, in the records' order
 abbrev pub liveVertices : Table → List ℕ
@@ -46,10 +65,11 @@ isLive live x = memb x live
 unfoldable pub numbered : List ℕ → ℕ → Bool
 numbered numbers next = ascending numbers and all (isBelow next) numbers
 
+-- every member is live
 unfoldable pub membersLive : List ℕ → Hyperedge → Bool
 membersLive live e = all (isLive live) (e .members)
 
--- the rules that speak of the content alone; the last: every member is live
+-- the rules that speak of the content alone
 unfoldable pub valid : Table → Bool
 valid t =
     numbered (liveVertices t) (t .nextVertex)

@@ -56,9 +56,11 @@ vertexCount ws = getD ws 2 0
 abbrev pub hyperedgeCount : List ℕ → ℕ
 hyperedgeCount ws = getD ws 3 0
 
+-- vertex record i: number, weight
 abbrev pub vertexAt : List ℕ → ℕ → Vertex
 vertexAt ws i = record { number = getD ws (vertexWord i) 0; weight = getD ws (vertexWord i + 1) 0 }
 
+-- hyperedge record j: number, weight, count, members
 abbrev pub countAt : ℕ → List ℕ → ℕ → ℕ
 countAt L ws j = getD ws (hyperedgeWord L j + 2) 0
 
@@ -66,6 +68,7 @@ countAt L ws j = getD ws (hyperedgeWord L j + 2) 0
 abbrev pub membersAt : ℕ → List ℕ → ℕ → List ℕ
 membersAt L ws j = take (countAt L ws j) (drop (hyperedgeWord L j + 3) ws)
 
+-- the whole of hyperedge record j
 abbrev pub hyperedgeAt : ℕ → List ℕ → ℕ → Hyperedge
 hyperedgeAt L ws j = record {
   number = getD ws (hyperedgeWord L j) 0;
@@ -80,6 +83,7 @@ readVertices ws = tab (vertexAt ws) (vertexCount ws)
 abbrev pub readHyperedges : ℕ → List ℕ → List Hyperedge
 readHyperedges L ws = tab (hyperedgeAt L ws) (hyperedgeCount ws)
 
+-- the content that stands in the words
 abbrev pub read : ℕ → List ℕ → Table
 read L ws = record {
   nextVertex = nextVertexIn ws;
@@ -90,12 +94,15 @@ read L ws = record {
 
 -- ---- from content to words
 
+-- a vertex record: number, weight
 abbrev pub vertexWords : Vertex → List ℕ
 vertexWords v = v .number ∷ v .weight ∷ []
 
+-- a hyperedge record: number, weight, count, members; every unused word is 0
 abbrev pub hyperedgeWords : ℕ → Hyperedge → List ℕ
 hyperedgeWords L e = e .number ∷ e .weight ∷ length (e .members) ∷ pad L (e .members)
 
+-- the words of a content: words 0 to 3, the vertex records, the hyperedge records; every unused word is 0
 unfoldable pub words : ℕ → Table → List ℕ
 words L t =
     (t .nextVertex ∷ t .nextHyperedge ∷ length (t .vertices) ∷ length (t .hyperedges) ∷ [])

@@ -8,6 +8,7 @@ use Rattle.lists.specs.Tests.{_and_}
 use Rattle.lists.specs.Lists.{any}
 use Rattle.layout.specs.Content.{Hyperedge, Table}
 
+-- a step x to y
 pub record Step : Type 0 where
   pub from : ℕ
   pub to : ℕ
@@ -18,6 +19,7 @@ stepsOf [] = []
 stepsOf (x ∷ []) = []
 stepsOf (x ∷ y ∷ ms) = record { from = x; to = y } ∷ stepsOf (y ∷ ms)
 
+-- the step is x to y
 unfoldable pub isStep : ℕ → ℕ → Step → Bool
 isStep x y s = eqb (s .from) x and eqb (s .to) y
 
@@ -29,5 +31,6 @@ makesStep x y e = any (isStep x y) (stepsOf (e .members))
 unfoldable pub hasStep : Table → ℕ → ℕ → Bool
 hasStep t x y = any (makesStep x y) (t .hyperedges)
 
+-- the same as a relation
 abbrev pub StepIn : Table → ℕ → ℕ → Type 0
 StepIn t x y = hasStep t x y ≡ true

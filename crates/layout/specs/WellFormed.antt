@@ -34,6 +34,7 @@ shaped L ws =
     and unusedHyperedges L ws
     and every (recordShaped L ws) (hyperedgeCount ws)
 
+-- well formed: the words are shaped, and the content that stands in them is valid
 unfoldable pub wellFormed : ℕ → List ℕ → Bool
 wellFormed L ws = shaped L ws and valid (read L ws)
 
@@ -43,6 +44,7 @@ wellFormed L ws = shaped L ws and valid (read L ws)
 unfoldable pub countFits : ℕ → Hyperedge → Bool
 countFits L e = ltb 0 (length (e .members)) and leb (length (e .members)) L
 
+-- n (at most 256), m (at most 192), each count fits, and the content is valid
 unfoldable pub holdable : ℕ → Table → Bool
 holdable L t =
     leb (length (t .vertices)) vertexLimit
@@ -52,6 +54,7 @@ holdable L t =
 
 -- ---- what the tests say, for those who work on the words
 
+-- what `shaped` says, part by part
 pub record Shaped (L : ℕ) (ws : List ℕ) : Type 0 where
   pub sized : length ws ≡ size L
   pub vertices-le : vertexCount ws ≤ vertexLimit
@@ -64,12 +67,14 @@ pub record Shaped (L : ℕ) (ws : List ℕ) : Type 0 where
 abbrev pub column : List ℕ → ℕ → ℕ → ℕ → List ℕ
 column ws base step n = tab (λ i. getD ws (base + i * step) 0) n
 
+-- the numbers of the live vertices, and of the live hyperedges, as they stand in the words
 abbrev pub vertexColumn : List ℕ → List ℕ
 vertexColumn ws = column ws verticesAt vertexSize (vertexCount ws)
 
 abbrev pub hyperedgeColumn : ℕ → List ℕ → List ℕ
 hyperedgeColumn L ws = column ws hyperedgesAt (recordSize L) (hyperedgeCount ws)
 
+-- what `wellFormed` says, part by part
 pub record Formed (L : ℕ) (ws : List ℕ) : Type 0 where
   pub shape : Shaped L ws
   pub counts : (j : ℕ) → j < hyperedgeCount ws → countAt L ws j ≤ L

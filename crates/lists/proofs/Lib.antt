@@ -13,3 +13,4 @@ pub mod Parts
 pub mod Filter
 pub mod Store
 pub mod Kept
+pub mod OverAt

@@ -28,6 +28,7 @@ sameList (x ∷ xs) (y ∷ ys) = eqb x y and sameList xs ys
 unfoldable pub zeros : List ℕ → Bool
 zeros xs = all (eqb 0) xs
 
+-- x is below the bound
 abbrev pub isBelow : ℕ → ℕ → Bool
 isBelow high x = ltb x high
 
@@ -48,6 +49,24 @@ otherThan f k x = not (eqb (f x) k)
 -- a number, by itself
 abbrev pub itself : ℕ → ℕ
 itself x = x
+
+-- a relation, or whatever is given for two numbers, with the two turned round
+abbrev pub turned : {A : Type 0} → (ℕ → ℕ → A) → ℕ → ℕ → A
+turned f x y = f y x
+
+-- as it stands, or turned where back
+abbrev pub facing : {A : Type 0} → Bool → (ℕ → ℕ → A) → ℕ → ℕ → A
+facing false f x y = f x y
+facing true f x y = f y x
+
+-- the word at place i
+abbrev pub wordAt : List ℕ → ℕ → ℕ
+wordAt xs i = getD xs i 0
+
+-- what f gives, summed over a list
+unfoldable pub sum : {A : Type 0} → (A → ℕ) → List A → ℕ
+sum f [] = 0
+sum f (x ∷ xs) = f x + sum f xs
 
 -- strictly ascending: each is below all that come after it
 unfoldable pub ascending : List ℕ → Bool
@@ -73,6 +92,10 @@ unfoldable pub tab : {A : Type 0} → (ℕ → A) → ℕ → List A
 tab f zero = []
 tab f (suc n) = let h = f zero in h ∷ tab (λ i. f (suc i)) n
 
+-- the numbers below n, ascending
+abbrev pub upTo : ℕ → List ℕ
+upTo n = tab (λ i. i) n
+
 -- records laid one after the other
 unfoldable pub flat : {A : Type 0} → (A → List ℕ) → List A → List ℕ
 flat f [] = []
@@ -82,6 +105,10 @@ flat f (x ∷ xs) = f x ++ flat f xs
 abbrev pub counted : List ℕ → List ℕ
 counted xs = length xs ∷ xs
 
+-- k words of 0
+unfoldable pub blank : ℕ → List ℕ
+blank k = replicate k 0
+
 -- 0 after xs, up to n words
 abbrev pub pad : ℕ → List ℕ → List ℕ
 pad n xs = xs ++ replicate (n - length xs) 0
@@ -89,6 +116,15 @@ pad n xs = xs ++ replicate (n - length xs) 0
 -- w written from the front of d, which keeps the rest
 unfoldable pub over : List ℕ → List ℕ → List ℕ
 over w d = w ++ drop (length w) d
+
+-- w written over the words from a on; the others are kept
+unfoldable pub overAt : ℕ → List ℕ → List ℕ → List ℕ
+overAt a w d = take a d ++ over w (drop a d)
+
+-- xs is written from the front of what was lent, and k is how many words that is
+pub record Wrote (xs lent : List ℕ) (k : ℕ) (exit : List ℕ) : Type 0 where
+  pub words : k ≡ length xs
+  pub wrote : exit ≡ over xs lent
 
 -- the k words from a on are gone, what is behind them moves down, and k words of 0 come last
 unfoldable pub shifted : List ℕ → ℕ → ℕ → List ℕ

@@ -14,6 +14,7 @@ unfoldable pub every : (ℕ → Bool) → ℕ → Bool
 every p zero = true
 every p (suc n) = every p n and p n
 
+-- yes or no: 1 or 0
 abbrev pub bit : Bool → ℕ
 bit true = 1
 bit false = 0

@@ -11,7 +11,7 @@ use lib.Dec.{eqb}
 use lib.ListN.{length, getD, take, drop, set, replicate, length-set, length-append, length-replicate, List·getD-append}
 use lib.Seq.{take-suc, take-length, drop-drop, getD-drop, getD-append-add, getD-set-same, getD-set-other, ext-getD}
 use borrow.Author.Tests.{eq-eqb, ne-eqb, eqb-true}
-use Rattle.lists.specs.Lists.{any, filter, flat, over, Ascending}
+use Rattle.lists.specs.Lists.{any, filter, flat, over, Ascending, sum}
 use Rattle.lists.proofs.Cases.{on, on-same, on-below}
 use Rattle.lists.proofs.Flat.{flat-snoc}
 use Rattle.lists.proofs.Chosen.{over-length}
@@ -28,7 +28,7 @@ use Rattle.layout.proofs.Answers.{listed-over, listed-fits}
 use Rattle.layout.proofs.Position.{position-found, position-missing}
 use Rattle.layout.proofs.Read.{live-length}
 use Rattle.lookups.specs.declared.Listing.the-variants.{Connecting}
-use Rattle.lookups.specs.Lookups.{relates, isRelated, related, places, placesIn, sum, block, listing, connecting, adjacentEntry, adjacency, fullAdjacent}
+use Rattle.lookups.specs.Lookups.{relates, isRelated, related, places, placesIn, block, listing, connecting, adjacentEntry, adjacency, fullAdjacent}
 use Rattle.lookups.specs.State.{listingMost, nothing, tallying, Tallied, wordsFor, headFor, start, heading, Beyond, Headed, fullWords, offset, placing, Filling}
 use Rattle.lookups.proofs.Shared.{live-fit}
 use Rattle.lookups.proofs.Tally.{connecting-most, tallied-most}

@@ -11,7 +11,7 @@ use lib.ListN.{length, getD, take, drop, set, replicate, length-set, length-appe
 use lib.Seq.{drop-cons, take-suc, take-all, length-take-le}
 use borrow.Author.Tests.{eq-eqb, ne-eqb, not-true, not-false}
 use Rattle.lists.specs.Tests.{_and_}
-use Rattle.lists.specs.Lists.{over, memb, flat, tab}
+use Rattle.lists.specs.Lists.{over, memb, flat, tab, sum}
 use Rattle.lists.proofs.Cases.{on, on-same}
 use Rattle.lists.proofs.Stride.{stride}
 use Rattle.lists.proofs.Parts.{part-count, part-tail, back-tail}
@@ -24,7 +24,7 @@ use Rattle.layout.specs.Steps.{isStep}
 use Rattle.layout.proofs.Read.{members-le}
 use Rattle.lookups.specs.declared.Listing.{Listing}
 use Rattle.lookups.specs.declared.Listing.the-variants.{Connecting, Weighing, Holding}
-use Rattle.lookups.specs.Lookups.{stepAt, places, placesIn, held, block, blockLength, sum}
+use Rattle.lookups.specs.Lookups.{stepAt, places, placesIn, held, block, blockLength}
 use Rattle.lookups.proofs.Places.{places-le}
 
 -- ---- the step at place i: the code compared its first end with x, and then its second with y

@@ -10,7 +10,7 @@ use lib.ListN.{length, getD, drop, length-set, drop-of-length-le, length-replica
 use lib.Seq.{drop-cons}
 use borrow.Author.Tests.{eq-eqb, ne-eqb}
 use Rattle.lists.specs.Tests.{_and_}
-use Rattle.lists.specs.Lists.{any, memb, filter}
+use Rattle.lists.specs.Lists.{any, memb, filter, facing}
 use Rattle.lists.proofs.Cases.{on-same, or-false, and-true, and-false-left, and-false-right, eqb-comm}
 use Rattle.layout.specs.declared.Found.{Found}
 use Rattle.layout.specs.declared.Found.the-variants.{At, Nothing}
@@ -24,7 +24,7 @@ use Rattle.marks.specs.Marks.{isMarked, marking, marked}
 use Rattle.marks.proofs.Marked.{marking-at, marked-filter}
 use Rattle.lookups.specs.declared.Relation.{Relation}
 use Rattle.lookups.specs.declared.Relation.the-variants.{From, To, Around}
-use Rattle.lookups.specs.Lookups.{facing, coMember, relates, end}
+use Rattle.lookups.specs.Lookups.{coMember, relates, end}
 use Rattle.lookups.specs.State.{someOf, with, isOther, noMarks, MarkedBy}
 
 -- ---- one mark more

@@ -10,14 +10,14 @@ use lib.ListN.{length, getD, drop, drop-of-length-le}
 use lib.Seq.{drop-cons}
 use borrow.Author.Tests.{eq-eqb, ne-eqb}
 use Rattle.lists.specs.Tests.{bit}
-use Rattle.lists.specs.Lists.{filter, tab}
+use Rattle.lists.specs.Lists.{filter, tab, sum}
 use Rattle.lists.proofs.Kept.{filter-length}
 use Rattle.lists.proofs.Tab.{drop-tab, length-tab}
 use Rattle.layout.specs.Steps.{Step, stepsOf}
 use Rattle.layout.specs.Layout.{hyperedgeCount, hyperedgeAt, membersAt, readHyperedges}
 use Rattle.layout.specs.WellFormed.{Formed}
 use Rattle.layout.proofs.Read.{members-le}
-use Rattle.lookups.specs.Lookups.{end, stepAt, hasEnd, places, placesIn, sum}
+use Rattle.lookups.specs.Lookups.{end, stepAt, hasEnd, places, placesIn}
 
 -- ---- a loop over i along the steps of ms
 

@@ -9,7 +9,7 @@ use lib.Dec.{eqb}
 use lib.ListN.{length, getD, drop, set, replicate, length-set, length-replicate, getD-replicate}
 use lib.Seq.{getD-set-same, getD-set-other}
 use borrow.Author.Tests.{eq-eqb, ne-eqb}
-use Rattle.lists.specs.Lists.{flat, tab, Ascending}
+use Rattle.lists.specs.Lists.{flat, tab, Ascending, facing}
 use Rattle.lists.proofs.Cases.{on, on-same}
 use Rattle.lists.proofs.Flat.{flat-more}
 use Rattle.lists.proofs.Ascend.{ascending-apart}
@@ -23,7 +23,7 @@ use Rattle.layout.proofs.Position.{position-found, position-missing}
 use Rattle.layout.proofs.Read.{live-length, vertex-found}
 use Rattle.lookups.specs.declared.Listing.{Listing}
 use Rattle.lookups.specs.declared.Listing.the-variants.{Connecting}
-use Rattle.lookups.specs.Lookups.{facing, end, stepAt, places, placesIn, block, blockLength, listing, connecting}
+use Rattle.lookups.specs.Lookups.{end, stepAt, places, placesIn, block, blockLength, listing, connecting}
 use Rattle.lookups.specs.State.{listingMost, listingAhead, nothing, tallying, Tallied}
 use Rattle.lookups.proofs.Places.{places-more, places-none, records-more, records-none}
 use Rattle.lookups.proofs.Marking.{step-yes, step-no}

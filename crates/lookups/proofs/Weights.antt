@@ -9,7 +9,7 @@ use lib.ListN.{length, drop, set, length-set, drop-of-length-le}
 use lib.Seq.{getD-set-same, getD-set-other}
 use borrow.Author.Tests.{eq-eqb, ne-eqb}
 use Rattle.lists.specs.Tests.{bit, chosen}
-use Rattle.lists.specs.Lists.{any, filter, tab}
+use Rattle.lists.specs.Lists.{any, filter, tab, wordAt}
 use Rattle.lists.proofs.Cases.{on, on-same}
 use Rattle.lists.proofs.Maps.{map-snoc}
 use Rattle.lists.proofs.Tab.{tab-suc, drop-tab, length-tab}
@@ -19,7 +19,7 @@ use Rattle.layout.specs.Content.{vertexNumber, liveVertices}
 use Rattle.layout.specs.Layout.{vertexLimit, vertexCount, vertexAt, readVertices, read}
 use Rattle.layout.specs.Answers.{Result, result, listed}
 use Rattle.layout.proofs.Read.{live-length, live-at}
-use Rattle.marks.specs.Marks.{isMarked, numberAt, marked}
+use Rattle.marks.specs.Marks.{isMarked, marked}
 use Rattle.lookups.specs.Lookups.{weighs, verticesWeighing}
 use Rattle.lookups.specs.State.{weighsAt}
 
@@ -72,8 +72,8 @@ pub weighing-listed : (L : ℕ) (ws : List ℕ) (w n : ℕ) (marks : List Bool) 
 unfolding marked verticesWeighing weighsAt
 weighing-listed L ws w n marks out x e h q =
     q ∙ ap (λ (xs : List ℕ). listed xs out)
-    (ap (λ (k : ℕ). map (numberAt (liveVertices (read L ws))) (chosen (isMarked marks) k)) (live-length L ws)
-    ∙ picked (weighs w) vertexNumber (vertexAt ws) (isMarked marks) (numberAt (liveVertices (read L ws))) (vertexCount ws)
+    (ap (λ (k : ℕ). map (wordAt (liveVertices (read L ws))) (chosen (isMarked marks) k)) (live-length L ws)
+    ∙ picked (weighs w) vertexNumber (vertexAt ws) (isMarked marks) (wordAt (liveVertices (read L ws))) (vertexCount ws)
     (λ k l. h k (omega arith)) (λ k l. live-at L ws k l))
 
 -- ---- a search for a weight: n is what `vertex_count` found, z what `vertex_weight` found

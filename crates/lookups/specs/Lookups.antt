@@ -5,7 +5,7 @@ use Prim.Native.Nat.{ℕ, _+_}
 use lib.Dec.{eqb}
 use lib.ListN.{length, getD, replicate}
 use Rattle.lists.specs.Tests.{_and_}
-use Rattle.lists.specs.Lists.{all, any, memb, filter, flat}
+use Rattle.lists.specs.Lists.{all, any, memb, filter, facing, sum, flat, counted}
 use Rattle.layout.specs.Content.{Vertex, Hyperedge, Table, liveVertices, vertexNumber, lists}
 use Rattle.layout.specs.Steps.{Step, stepsOf, isStep, makesStep}
 use Rattle.lookups.specs.declared.Relation.{Relation}
@@ -14,11 +14,6 @@ use Rattle.lookups.specs.declared.Listing.{Listing}
 use Rattle.lookups.specs.declared.Listing.the-variants.{Connecting, Weighing, Holding}
 
 -- ---- vertices that a hyperedge relates to v
-
--- read as it stands, or with the two turned round
-abbrev pub facing : {A : Type 0} → Bool → (ℕ → ℕ → A) → ℕ → ℕ → A
-facing false f v y = f v y
-facing true f v y = f y v
 
 -- a co-member other than the vertex
 unfoldable pub coMember : ℕ → ℕ → Hyperedge → Bool
@@ -30,6 +25,7 @@ relates From v y e = makesStep v y e
 relates To v y e = makesStep y v e
 relates Around v y e = coMember v y e
 
+-- some hyperedge relates y to v
 unfoldable pub isRelated : Relation → Table → ℕ → ℕ → Bool
 isRelated rel t v y = any (relates rel v y) (t .hyperedges)
 
@@ -43,6 +39,7 @@ related rel v t = filter (isRelated rel t v) (liveVertices t)
 unfoldable pub isMemberOf : ℕ → ℕ → Hyperedge → Bool
 isMemberOf y x e = eqb (e .number) x and lists y e
 
+-- some hyperedge of number x has y as a member
 unfoldable pub hasMember : Table → ℕ → ℕ → Bool
 hasMember t y x = any (isMemberOf y x) (t .hyperedges)
 
@@ -56,6 +53,7 @@ shared xs t = filter (isShared t xs) (liveVertices t)
 
 -- ---- places
 
+-- where a step starts, or where it arrives
 abbrev pub end : Bool → Step → ℕ
 end false s = s .from
 end true s = s .to
@@ -72,12 +70,9 @@ stepAt ms i = record { from = getD ms i 0; to = getD ms (i + 1) 0 }
 unfoldable pub places : (Step → Bool) → List ℕ → ℕ
 places p ms = length (filter p (stepsOf ms))
 
+-- the same of a hyperedge
 unfoldable pub placesIn : (Step → Bool) → Hyperedge → ℕ
 placesIn p e = places p (e .members)
-
-unfoldable pub sum : {A : Type 0} → (A → ℕ) → List A → ℕ
-sum f [] = 0
-sum f (x ∷ xs) = f x + sum f xs
 
 -- degrees count every place
 unfoldable pub degree : Bool → ℕ → Table → ℕ
@@ -87,7 +82,7 @@ degree arriving v t = sum (placesIn (hasEnd arriving v)) (t .hyperedges)
 
 -- a list that holds v, as length and members
 unfoldable pub held : ℕ → List ℕ → List ℕ
-held v ms = cond (memb v ms) (length ms ∷ ms) []
+held v ms = cond (memb v ms) (counted ms) []
 
 -- what a listing has of a hyperedge: its number once for each place of the step x to y; its number, if it weighs w;
 -- its list, if that holds v
@@ -96,9 +91,11 @@ block (Connecting x y) e = replicate (placesIn (isStep x y) e) (e .number)
 block (Weighing w) e = cond (eqb (e .weight) w) (e .number ∷ []) []
 block (Holding v) e = held v (e .members)
 
+-- how many words that is
 unfoldable pub blockLength : Listing → Hyperedge → ℕ
 blockLength q e = length (block q e)
 
+-- the listing: what it has of each hyperedge, ascending
 unfoldable pub listing : Listing → Table → List ℕ
 listing q t = flat (block q) (t .hyperedges)
 
@@ -110,8 +107,9 @@ connecting arriving t v y = listing (facing arriving Connecting v y) t
 
 -- vertex, count, hyperedges
 unfoldable pub adjacentEntry : Bool → Table → ℕ → ℕ → List ℕ
-adjacentEntry arriving t v y = let es = connecting arriving t v y in y ∷ length es ∷ es
+adjacentEntry arriving t v y = y ∷ counted (connecting arriving t v y)
 
+-- the vertices right after v, or right before v
 abbrev pub adjacency : Bool → Relation
 adjacency false = From
 adjacency true = To
@@ -122,6 +120,7 @@ fullAdjacent arriving v t = flat (adjacentEntry arriving t v) (related (adjacenc
 
 -- ---- vertices of a weight
 
+-- the vertex weighs w
 unfoldable pub weighs : ℕ → Vertex → Bool
 weighs w x = eqb (x .weight) w
 
@@ -129,5 +128,6 @@ weighs w x = eqb (x .weight) w
 unfoldable pub verticesWeighing : ℕ → Table → List ℕ
 verticesWeighing w t = map vertexNumber (filter (weighs w) (t .vertices))
 
+-- some vertex weighs w
 unfoldable pub hasVertexWeighing : ℕ → Table → Bool
 hasVertexWeighing w t = any (weighs w) (t .vertices)

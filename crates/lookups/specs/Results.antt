@@ -29,7 +29,7 @@ intersectionsResult xs out t = onSeveral xs out (onLiveHyperedges t xs out (list
 unfoldable pub degreeResult : Bool → ℕ → Table → Result
 degreeResult arriving v t = onLiveVertex t v [] (result (Done (degree arriving v t)) [])
 
--- 3, 11
+-- a listing of hyperedges by a vertex: 3, 11
 unfoldable pub listingResult : ℕ → Listing → List ℕ → Table → Result
 listingResult v q out t = onLiveVertex t v out (listed (listing q t) out)
 

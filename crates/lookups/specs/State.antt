@@ -6,14 +6,14 @@ use Prim.Native.Nat.{ℕ, suc, _+_, _*_, _-_, _≤_, _<_}
 use lib.Dec.{eqb}
 use lib.ListN.{length, getD, take, drop, set, replicate}
 use Rattle.lists.specs.Tests.{_and_}
-use Rattle.lists.specs.Lists.{any, flat}
+use Rattle.lists.specs.Lists.{any, flat, facing, sum}
 use Rattle.layout.specs.declared.Found.{Found}
 use Rattle.layout.specs.declared.Found.the-variants.{At, Nothing}
 use Rattle.layout.specs.Content.{Table}
 use Rattle.layout.specs.Layout.{vertexLimit, hyperedgeLimit, limit, vertexAt}
 use Rattle.marks.specs.Marks.{isMarked}
 use Rattle.lookups.specs.declared.Listing.the-variants.{Connecting}
-use Rattle.lookups.specs.Lookups.{facing, sum, block, weighs}
+use Rattle.lookups.specs.Lookups.{block, weighs}
 
 -- ---- marks
 
@@ -84,7 +84,7 @@ wordsFor count = cond (eqb count 0) 0 (count + 2)
 unfoldable pub headFor : ℕ → ℕ
 headFor count = cond (eqb count 0) 0 2
 
--- where the words of the vertex in record k start
+-- where the words of the vertex in record k start, by the counts
 unfoldable pub start : List ℕ → ℕ → ℕ
 start counts k = sum wordsFor (take k counts)
 
@@ -111,7 +111,7 @@ pub record Headed (live counts old : List ℕ) (n : ℕ) (nexts new : List ℕ) 
 unfoldable pub fullWords : (ℕ → List ℕ) → ℕ → List ℕ
 fullWords whole y = cond (eqb (length (whole y)) 0) [] (y ∷ length (whole y) ∷ whole y)
 
--- where the words of the vertex in record k start
+-- where the words of the vertex in record k start, by the lists
 unfoldable pub offset : List ℕ → (ℕ → List ℕ) → ℕ → ℕ
 offset live whole k = length (flat (fullWords whole) (take k live))
 

@@ -4,14 +4,14 @@ ghost use mathlib.Core.Bool.{true, false};
 ghost use mathlib.Core.List.{[]};
 ghost use Prim.Native.Nat.{ℕ, _+_, _<_};
 ghost use lib.ListN.{length};
-ghost use Rattle.lists.specs.Lists.{memb};
+ghost use Rattle.lists.specs.Lists.{memb, facing};
 ghost use Rattle.layout.specs.Content.{liveVertices};
 ghost use Rattle.layout.specs.Layout.{limit, vertexLimit, vertexCount, hyperedgeCount, hyperedgeAt, read};
 ghost use Rattle.layout.specs.WellFormed.{Formed};
 ghost use Rattle.layout.specs.Steps.{stepsOf, isStep};
 ghost use Rattle.layout.specs.Answers.{result, onFormed, listed};
 ghost use Rattle.marks.specs.Marks.{isMarked};
-ghost use Rattle.lookups.specs.Lookups.{facing, relates, isRelated, end, stepAt, hasEnd, places, degree, hasVertexWeighing};
+ghost use Rattle.lookups.specs.Lookups.{relates, isRelated, end, stepAt, hasEnd, places, degree, hasVertexWeighing};
 ghost use Rattle.lookups.specs.State.{someOf, with, isOther, noMarks, MarkedBy, weighsAt};
 ghost use Rattle.lookups.specs.Results.{relatedResult, fullAdjacentResult, degreeResult, connectingResult, intersectionsResult, weighingResult, fullHyperedgesResult, containsResult, vertexIndexResult};
 

@@ -10,7 +10,7 @@ use lib.ListN.{length, getD, set, length-set}
 use lib.Seq.{getD-set-same, getD-set-other}
 use borrow.Author.Tests.{eq-eqb, ne-eqb}
 use Rattle.lists.specs.Tests.{count, chosen}
-use Rattle.lists.specs.Lists.{filter, over, Ascending}
+use Rattle.lists.specs.Lists.{filter, over, Ascending, wordAt}
 use Rattle.lists.proofs.Cases.{on-same, or-right, or-false}
 use Rattle.lists.proofs.Maps.{map-length, map-snoc}
 use Rattle.lists.proofs.Count.{count-below, count-in, count-out}
@@ -28,7 +28,7 @@ use Rattle.layout.specs.Answers.{result, listed}
 use Rattle.layout.proofs.Answers.{listed-over, listed-fits}
 use Rattle.layout.proofs.Position.{position-found, position-missing}
 use Rattle.layout.proofs.Read.{live-length, live-at, vertex-found}
-use Rattle.marks.specs.Marks.{isMarked, marking, numberAt, marked}
+use Rattle.marks.specs.Marks.{isMarked, marking, marked}
 
 -- ---- one mark more
 
@@ -69,7 +69,7 @@ pub marked-filter : (p : ℕ → Bool) (marks : List Bool) (numbers : List ℕ) 
     → marked marks numbers ≡ filter p numbers
 unfolding marked
 marked-filter p marks numbers h =
-    filter-tab p (isMarked marks) (numberAt numbers) (length numbers) h ∙ ap (filter p) (tab-getD numbers 0)
+    filter-tab p (isMarked marks) (wordAt numbers) (length numbers) h ∙ ap (filter p) (tab-getD numbers 0)
 
 -- ---- the loop that writes them: after k records, c are written
 
@@ -105,22 +105,22 @@ module _ {p : ℕ → Bool} {f : ℕ → ℕ} {out₀ : List ℕ} {k c : ℕ} {o
 
 -- ---- n is what `vertex_count` found
 
-pub number-live : (L : ℕ) (ws : List ℕ) (n : ℕ) → n ≡ vertexCount ws → (k x : ℕ) → k < n → x ≡ getD ws (vertexWord k) 0 → x ≡ numberAt (liveVertices (read L ws)) k
+pub number-live : (L : ℕ) (ws : List ℕ) (n : ℕ) → n ≡ vertexCount ws → (k x : ℕ) → k < n → x ≡ getD ws (vertexWord k) 0 → x ≡ wordAt (liveVertices (read L ws)) k
 number-live L ws n e k x h q = q ∙ sym (live-at L ws k (rw (← e) h))
 
 module _ (L : ℕ) (ws : List ℕ) (marks : List Bool) (n : ℕ) (e : n ≡ vertexCount ws) where
-  pub marked-are : map (numberAt (liveVertices (read L ws))) (chosen (isMarked marks) n) ≡ marked marks (liveVertices (read L ws))
+  pub marked-are : map (wordAt (liveVertices (read L ws))) (chosen (isMarked marks) n) ≡ marked marks (liveVertices (read L ws))
   unfolding marked
   marked-are = rw (e, live-length L ws)
 
   -- c is what `count_marked` found
   module _ (c : ℕ) (q : c ≡ count (isMarked marks) n) (out : List ℕ) where
     counted : c ≡ length (marked marks (liveVertices (read L ws)))
-    counted = q ∙ sym (picked-length (isMarked marks) (numberAt (liveVertices (read L ws))) n) ∙ ap length marked-are
+    counted = q ∙ sym (picked-length (isMarked marks) (wordAt (liveVertices (read L ws))) n) ∙ ap length marked-are
 
     pub marked-over : length out < c → result (NoRoom c) out ≡ listed (marked marks (liveVertices (read L ws))) out
     marked-over h = listed-over _ out c counted h
 
-    pub marked-fits : (exit : List ℕ) → c ≤ length out → exit ≡ over (map (numberAt (liveVertices (read L ws))) (chosen (isMarked marks) n)) out
+    pub marked-fits : (exit : List ℕ) → c ≤ length out → exit ≡ over (map (wordAt (liveVertices (read L ws))) (chosen (isMarked marks) n)) out
         → result (Done c) exit ≡ listed (marked marks (liveVertices (read L ws))) out
     marked-fits exit h w = listed-fits _ out c counted exit h (w ∙ ap (λ (xs : List ℕ). over xs out) marked-are)

@@ -4,12 +4,12 @@ ghost use mathlib.Core.List.{map};
 ghost use Prim.Native.Nat.{_≤_};
 ghost use lib.ListN.{length};
 ghost use Rattle.lists.specs.Tests.{count, chosen};
-ghost use Rattle.lists.specs.Lists.{over};
+ghost use Rattle.lists.specs.Lists.{over, wordAt};
 ghost use Rattle.layout.specs.Content.{liveVertices, position};
 ghost use Rattle.layout.specs.Layout.{limit, vertexLimit, vertexCount, read};
 ghost use Rattle.layout.specs.WellFormed.{Formed};
 ghost use Rattle.layout.specs.Answers.{result, listed};
-ghost use Rattle.marks.specs.Marks.{isMarked, marking, numberAt, marked};
+ghost use Rattle.marks.specs.Marks.{isMarked, marking, marked};
 use layout::Answer;
 use layout::Found;
 use layout::VertexIndex;
@@ -46,7 +46,7 @@ pub fn count_marked(marks: &[bool; 256], n: usize) -> usize
 pub fn write_marked(t: &[u32], n: usize, marks: &[bool; 256], out: &mut [u32])
     requires { ⌜ Formed limit (now t) ⌝ }
     requires { ⌜ (n ≡ vertexCount (now t)) × (count (isMarked (now marks)) n ≤ length (now out)) ⌝ }
-    ensures { λ _. ⌜ now (out .exit) ≡ over (map (numberAt (liveVertices (read limit (now (t .entry))))) (chosen (isMarked (now (marks .entry))) n)) (now (out .entry)) ⌝ }
+    ensures { λ _. ⌜ now (out .exit) ≡ over (map (wordAt (liveVertices (read limit (now (t .entry))))) (chosen (isMarked (now (marks .entry))) n)) (now (out .entry)) ⌝ }
 {
     let mut c = 0;
     let mut k = 0;

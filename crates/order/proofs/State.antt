@@ -17,7 +17,7 @@ use Rattle.lists.proofs.Cases.{on, on-same}
 use Rattle.lists.proofs.Chosen.{over-none, over-more}
 use Rattle.lists.proofs.Count.{count-ext, count-flip, room}
 use Rattle.lists.proofs.Memb.{memb-snoc-self, memb-snoc-other, distinct-snoc, below-snoc}
-use Rattle.lists.specs.Lists.{memb, isBelow, Distinct, Below, over}
+use Rattle.lists.specs.Lists.{memb, isBelow, Distinct, Below, over, blank}
 use Rattle.lists.specs.Tests.{count, bit}
 use Rattle.order.proofs.Greedy.{avail-new, next-avail, rest-more, rest-end, greedy-short, greedy-sorts, greedy-fails}
 use Rattle.order.proofs.Least.{least-ext, least-hit}
@@ -25,7 +25,7 @@ use Rattle.order.proofs.Smallest.{forward-open}
 use Rattle.order.specs.Greedy.{waits, available, next, rest, greedy}
 use Rattle.order.specs.Least.{least}
 use Rattle.order.specs.Sort.{Smallest}
-use Rattle.order.specs.Post.{blank, Sorted}
+use Rattle.order.specs.Post.{Sorted}
 use Rattle.order.specs.State.{Degrees, Row, Owed, isFree, placedMark, Needs, Sorting}
 
 -- ---- the counts, row by row
@@ -106,7 +106,7 @@ module _ {E : ℕ → ℕ → Bool} {n : ℕ} {d p : List ℕ} (g : Needs E n d 
 
 -- ---- the sort's loop
 
-blank-length : length blank ≡ 256
+blank-length : length (blank 256) ≡ 256
 unfolding blank
 blank-length = length-replicate {A = ℕ} 256 0
 
@@ -125,7 +125,7 @@ module _ {E : ℕ → ℕ → Bool} {n : ℕ} {d o : List ℕ} {t v : ℕ} (h : 
       record {
         done = λ e. let s : t ≡ n = eqb-true t n e in subst (λ (w : List ℕ). Smallest (isBelow n) (Edge E n) w) (sym g ∙ ap (λ (k : ℕ). take k o) s) (greedy-sorts E n (sym len ∙ s));
         refused = λ e. let s : t ≡ n → ⊥ = eqb-false t n e in greedy-fails E n (subst (λ (k : ℕ). k < n) len (omega (arith, len, greedy-short E n)));
-        array = h .array ∙ ap (λ (w : List ℕ). over w blank) g;
+        array = h .array ∙ ap (λ (w : List ℕ). over w (blank 256)) g;
       }
 
   module _ (l : v < n) where
@@ -169,7 +169,7 @@ module _ {E : ℕ → ℕ → Bool} {n : ℕ} {d o : List ℕ} {t v : ℕ} (h : 
         let u : rest E n (n - t) p ≡ v ∷ rest E n (n - (t + 1)) q =
         ap (λ (i : ℕ). rest E n i p) f ∙ rest-more E n (n - (t + 1)) p nexts ∙ ap (λ (x : ℕ). x ∷ rest E n (n - (t + 1)) (p ++ (x ∷ []))) (sym (h .turn)) in
         record {
-          array = ap (λ (w : List ℕ). set w t v) (h .array) ∙ over-more p blank v t (sym (h .count)) (omega (arith, sorting-room, blank-length)) ∙ ap (λ (w : List ℕ). over w blank) (sym r);
+          array = ap (λ (w : List ℕ). set w t v) (h .array) ∙ over-more p (blank 256) v t (sym (h .count)) (omega (arith, sorting-room, blank-length)) ∙ ap (λ (w : List ℕ). over w (blank 256)) (sym r);
           long = length-set o t v ∙ h .long;
           count = omega (arith, ap length r, length-append p (v ∷ []), h .count);
           once = subst (λ (w : List ℕ). Distinct w) (sym r) (distinct-snoc p v (h .once) new);

@@ -5,10 +5,9 @@ use mathlib.Core.List.{List, _++_}
 use Prim.Native.Nat.{ℕ, _+_, _-_, _*_, _≤_, _<_}
 use lib.Dec.{eqb}
 use lib.ListN.{length, getD, take}
-use Rattle.lists.specs.Lists.{memb, Distinct, Below, over}
+use Rattle.lists.specs.Lists.{memb, Distinct, Below, over, blank}
 use Rattle.lists.specs.Tests.{count, bit}
 use Rattle.order.specs.Greedy.{waits, next, rest, greedy}
-use Rattle.order.specs.Post.{blank}
 
 -- how many of the numbers below u have a step to each number
 pub record Degrees (E : ℕ → ℕ → Bool) (n u : ℕ) (d : List ℕ) : Type 0 where
@@ -52,7 +51,7 @@ pub record Needs (E : ℕ → ℕ → Bool) (n : ℕ) (d : List ℕ) (p : List �
 
 -- what the sort's loop holds: what is placed and what is left of the sort make the whole, and v is next
 pub record Sorting (E : ℕ → ℕ → Bool) (n : ℕ) (d o : List ℕ) (t v : ℕ) : Type 0 where
-  pub array : o ≡ over (take t o) blank
+  pub array : o ≡ over (take t o) (blank 256)
   pub long : length o ≡ 256
   pub count : t ≡ length (take t o)
   pub once : Distinct (take t o)

@@ -11,11 +11,11 @@ use lib.ListN.{length, getD, take, set, replicate}
 use lib.Seq.{take-all}
 use borrow.Author.Tests.{le-ltb}
 use Rattle.lists.specs.Tests.{_and_}
-use Rattle.lists.specs.Lists.{any, Ascending}
+use Rattle.lists.specs.Lists.{any, Ascending, facing, wordAt}
 use Rattle.lists.proofs.Cases.{on}
 use Rattle.lists.proofs.Tab.{length-tab, getD-tab}
 use Rattle.layout.specs.declared.Found.the-variants.{At}
-use Rattle.layout.specs.Content.{Hyperedge, Table, liveVertices, position}
+use Rattle.layout.specs.Content.{Hyperedge, Table, liveVertices, position, noHyperedge}
 use Rattle.layout.specs.Layout.{limit, vertexLimit, vertexCount, hyperedgeCount, hyperedgeAt, membersAt, read}
 use Rattle.layout.specs.WellFormed.{Formed}
 use Rattle.layout.specs.Steps.{stepsOf, isStep, makesStep}
@@ -24,8 +24,8 @@ use Rattle.layout.proofs.Read.{live-length, live-ascends}
 use Rattle.steps.specs.Matrices.{numberOf, cell}
 use Rattle.steps.proofs.Any.{any-snoc, steps-more}
 use Rattle.steps.proofs.Drawing.{same-record, and-swap}
-use Rattle.paths.specs.Paths.{noHyperedge, weightBy, lighter, choiceAmong, choice}
-use Rattle.paths.specs.Choices.{Weights, weightIn, facing, Values, among, Choosing, Chosen}
+use Rattle.paths.specs.Paths.{weightBy, lighter, choiceAmong, choice}
+use Rattle.paths.specs.Choices.{Weights, Values, among, Choosing, Chosen}
 use Rattle.paths.proofs.Values.{values-ext, values-none, values-set, weights-are}
 
 -- ---- a choice that grows by a step
@@ -86,12 +86,12 @@ module _ (ws : List ℕ) (f : Formed limit ws) (F G : ℕ → ℕ → ℕ) (h : 
 -- ---- for `search`: the cell that `choose_step` chose
 
 module _ (back : Bool) (w c : List ℕ) (k a b : ℕ) (c′ : List ℕ) where
-  pub step-back : back ≡ true → c′ ≡ set c (cell b a) (lighter (weightIn w) (getD c (cell b a) 0) k)
-      → c′ ≡ set c (facing back cell a b) (lighter (weightIn w) (getD c (facing back cell a b) 0) k)
+  pub step-back : back ≡ true → c′ ≡ set c (cell b a) (lighter (wordAt w) (getD c (cell b a) 0) k)
+      → c′ ≡ set c (facing back cell a b) (lighter (wordAt w) (getD c (facing back cell a b) 0) k)
   step-back e q = rw e q
 
-  pub step-forth : back ≡ false → c′ ≡ set c (cell a b) (lighter (weightIn w) (getD c (cell a b) 0) k)
-      → c′ ≡ set c (facing back cell a b) (lighter (weightIn w) (getD c (facing back cell a b) 0) k)
+  pub step-forth : back ≡ false → c′ ≡ set c (cell a b) (lighter (wordAt w) (getD c (cell a b) 0) k)
+      → c′ ≡ set c (facing back cell a b) (lighter (wordAt w) (getD c (facing back cell a b) 0) k)
   step-forth e q = rw e q
 
 -- ---- within a list
@@ -145,13 +145,13 @@ module _ {ws : List ℕ} {back : Bool} {j : ℕ} {ms : List ℕ} where
     -- b is what `place` found of the next member, c' what `choose_step` made
     pub passing-more : Formed limit ws → (w : List ℕ) → Weights (read limit ws) (hyperedgeCount ws) w → (k : ℕ) → k ≡ j + 1 → i + 1 < length ms
         → (b : ℕ) → position (getD ms (i + 1) 0) (liveVertices (read limit ws)) ≡ At b
-        → (c′ : List ℕ) → c′ ≡ set c (facing back cell a b) (lighter (weightIn w) (getD c (facing back cell a b) 0) k) → Passing ws back j ms (i + 1) b c′
+        → (c′ : List ℕ) → c′ ≡ set c (facing back cell a b) (lighter (wordAt w) (getD c (facing back cell a b) 0) k) → Passing ws back j ms (i + 1) b c′
     passing-more f w hw k ek h b e c′ q = record {
       within = h;
       last = e;
       holds = subst (λ (l : List ℕ). Values (among (read limit ws) (facing back (soFar (read limit ws) j (take (suc (i + 1)) ms)))) (vertexCount ws) l)
           (sym (q ∙ ap (λ (z : ℕ). set c (facing back cell a b) z)
-          (lighter-ext (weightIn w) (weightBy (read limit ws)) (weights-are ws w hw) (getD c (facing back cell a b) 0) k
+          (lighter-ext (wordAt w) (weightBy (read limit ws)) (weights-are ws w hw) (getD c (facing back cell a b) 0) k
           ∙ ap (lighter (weightBy (read limit ws)) (getD c (facing back cell a b) 0)) (ek ∙ add-one j))))
           (values-step ws f (soFar (read limit ws) j (take (suc i) ms)) (soFar (read limit ws) j (take (suc (i + 1)) ms)) (λ z. lighter (weightBy (read limit ws)) z (suc j))
           (getD ms i 0) (getD ms (i + 1) 0) a b (d .last) e (soFar-more ws j ms i h) back (d .holds));

@@ -13,11 +13,11 @@ use Rattle.lists.specs.Lists.{Ascending}
 use Rattle.lists.proofs.Cases.{on, on-same, on-below, clash, test-ext, and-left, and-right}
 use Rattle.lists.proofs.Maps.{map-length}
 use Rattle.lists.proofs.Ascend.{ascending-apart}
-use Rattle.layout.specs.Content.{Hyperedge, Table, hyperedgeNumber, liveHyperedges, valid}
+use Rattle.layout.specs.Content.{Hyperedge, Table, hyperedgeNumber, liveHyperedges, valid, noHyperedge}
 use Rattle.layout.specs.Steps.{makesStep, hasStep}
 use Rattle.layout.proofs.Read.{numbered-ascends}
 use Rattle.steps.proofs.Any.{any-at, any-of}
-use Rattle.paths.specs.Paths.{noHyperedge, Lightest, hyperedgeBy, weightBy, lighter, choiceAmong, choice, stepHyperedge, stepCost}
+use Rattle.paths.specs.Paths.{Lightest, hyperedgeBy, weightBy, lighter, choiceAmong, choice, stepHyperedge, stepCost}
 
 number-at : (es : List Hyperedge) (j : ℕ) → getD (map hyperedgeNumber es) j 0 ≡ getD es j noHyperedge .number
 number-at [] j = refl

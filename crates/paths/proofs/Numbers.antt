@@ -9,7 +9,7 @@ use native.Mathlib.Omega.{arith}
 use lib.Dec.{eqb}
 use lib.ListN.{length, getD, take}
 use borrow.Author.Tests.{eq-eqb, ne-eqb, not-true, not-false}
-use Rattle.lists.specs.Lists.{memb, Below}
+use Rattle.lists.specs.Lists.{memb, Below, wordAt}
 use Rattle.lists.proofs.Cases.{on-same}
 use Rattle.lists.proofs.Maps.{map-length}
 use Rattle.lists.proofs.Memb.{memb-getD}
@@ -30,7 +30,7 @@ use Rattle.steps.specs.Matrices.{numberOf}
 use Rattle.steps.proofs.Among.{steps-among}
 use Rattle.steps.proofs.Records.{numbers-rise, record-once, record-of}
 use Rattle.paths.specs.Paths.{weightBy, choice, stepCost, bestPath, pathWords, costWords, costTo}
-use Rattle.paths.specs.Choices.{Weights, weightIn, Chosen}
+use Rattle.paths.specs.Choices.{Weights, Chosen}
 use Rattle.paths.specs.Written.{Laid, pairBetween, noPath, pathHead, stepWords, keyWords}
 use Rattle.paths.proofs.Values.{value-at, weights-are}
 use Rattle.paths.proofs.Lightest.{choice-step}
@@ -154,7 +154,7 @@ module _ {ws : List ℕ} (f : Formed limit ws) (w : List ℕ) (hw : Weights (rea
   there : (x y k : ℕ) → k ≡ choice (read limit ws) x y → not (eqb k 0) ≡ hasStep (read limit ws) x y
   there x y k e = ap (λ (z : ℕ). not (eqb z 0)) e ∙ choice-step (read limit ws) x y
 
-  costs : (x y k : ℕ) → k ≡ choice (read limit ws) x y → weightIn w k ≡ stepCost (read limit ws) x y
+  costs : (x y k : ℕ) → k ≡ choice (read limit ws) x y → wordAt w k ≡ stepCost (read limit ws) x y
   unfolding stepCost
   costs x y k e = weights-are ws w hw k ∙ ap (weightBy (read limit ws)) e
 

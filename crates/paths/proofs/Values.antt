@@ -12,13 +12,14 @@ use borrow.Author.Tests.{eq-eqb, ne-eqb, lt-ltb, ltb-true, le-ltb}
 use Rattle.lists.specs.Tests.{_and_}
 use Rattle.lists.proofs.Cases.{on, on-same, on-below, clash, and-both, and-false-left, and-false-right}
 use Rattle.lists.proofs.Tab.{length-tab, getD-tab}
-use Rattle.layout.specs.Content.{Hyperedge, Table}
+use Rattle.layout.specs.Content.{Hyperedge, Table, noHyperedge}
 use Rattle.layout.specs.Layout.{limit, vertexLimit, hyperedgeCount, hyperedgeAt, readHyperedges, read}
 use Rattle.layout.specs.WellFormed.{Formed}
 use Rattle.steps.specs.Matrices.{cell}
 use Rattle.distance.specs.Cost.{Within}
-use Rattle.paths.specs.Paths.{noHyperedge, weightBy, lighter}
-use Rattle.paths.specs.Choices.{Weights, weightIn, Values}
+use Rattle.paths.specs.Paths.{weightBy, lighter}
+use Rattle.lists.specs.Lists.{wordAt}
+use Rattle.paths.specs.Choices.{Weights, Values}
 
 -- ---- values
 
@@ -93,20 +94,20 @@ module _ {f : ℕ → ℕ → ℕ} {n : ℕ} {c : List ℕ} (w : Values f n c) (
 -- ---- a choice, for `search`: p and q are the weights that `weight_at` found
 
 module _ (w c : List ℕ) (at k : ℕ) where
-  pub choose-first : getD c at 0 ≡ 0 → set c at k ≡ set c at (lighter (weightIn w) (getD c at 0) k)
+  pub choose-first : getD c at 0 ≡ 0 → set c at k ≡ set c at (lighter (wordAt w) (getD c at 0) k)
   unfolding lighter
   choose-first e = rw e
 
-  module _ (ne : getD c at 0 ≡ 0 → ⊥) (p : ℕ) (ep : p ≡ weightIn w k) (q : ℕ) (eq : q ≡ weightIn w (getD c at 0)) where
-    lighter-some : (h : ℕ) → (h ≡ 0 → ⊥) → lighter (weightIn w) h k ≡ cond (ltb (weightIn w k) (weightIn w h)) k h
+  module _ (ne : getD c at 0 ≡ 0 → ⊥) (p : ℕ) (ep : p ≡ wordAt w k) (q : ℕ) (eq : q ≡ wordAt w (getD c at 0)) where
+    lighter-some : (h : ℕ) → (h ≡ 0 → ⊥) → lighter (wordAt w) h k ≡ cond (ltb (wordAt w k) (wordAt w h)) k h
     unfolding lighter
     lighter-some zero z = absurd (z refl)
     lighter-some (suc h) z = refl
 
-    pub choose-lighter : p < q → set c at k ≡ set c at (lighter (weightIn w) (getD c at 0) k)
+    pub choose-lighter : p < q → set c at k ≡ set c at (lighter (wordAt w) (getD c at 0) k)
     choose-lighter l = rw (lighter-some (getD c at 0) ne, ← ep, ← eq, lt-ltb p q l)
 
-    pub choose-kept : q ≤ p → c ≡ set c at (lighter (weightIn w) (getD c at 0) k)
+    pub choose-kept : q ≤ p → c ≡ set c at (lighter (wordAt w) (getD c at 0) k)
     choose-kept l = rw (lighter-some (getD c at 0) ne, ← ep, ← eq, le-ltb p q l) (sym (set-getD c at 0))
 
 -- ---- weights: r is what `hyperedge_weight` found of record j
@@ -142,7 +143,7 @@ module _ (ws : List ℕ) (j : ℕ) (w : List ℕ) (h : Weights (read limit ws) j
   weights-end k e a b = subst (λ (i : ℕ). Weights (read limit ws) i w) (le-antisymm a b ∙ e) h
 
 -- every place's weight
-pub weights-are : (ws : List ℕ) (w : List ℕ) → Weights (read limit ws) (hyperedgeCount ws) w → (k : ℕ) → weightIn w k ≡ weightBy (read limit ws) k
+pub weights-are : (ws : List ℕ) (w : List ℕ) → Weights (read limit ws) (hyperedgeCount ws) w → (k : ℕ) → wordAt w k ≡ weightBy (read limit ws) k
 weights-are ws w h zero = h .none
 weights-are ws w h (suc i) =
     on-below i (hyperedgeCount ws)

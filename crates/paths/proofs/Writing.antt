@@ -7,73 +7,42 @@ use native.Mathlib.Nat.{lt-irrefl, le-antisymm}
 use native.Mathlib.Numerals.{add-one}
 use native.Mathlib.Omega.{arith}
 use lib.Dec.{eqb}
-use lib.ListN.{length, getD, take, drop, set, length-append, length-take, take-append-drop, List·getD-eq-default}
-use lib.Seq.{take-at, drop-at, drop-cons, drop-length, drop-drop, length-take-le, getD-take}
+use lib.ListN.{length, getD, take, drop, set, length-append, List·getD-eq-default}
+use lib.Seq.{drop-cons, drop-length, length-take-le, getD-take}
 use borrow.Author.Tests.{eq-eqb, ne-eqb}
 use Rattle.lists.specs.Tests.{bit, count}
-use Rattle.lists.specs.Lists.{tab, flat, over}
+use Rattle.lists.specs.Lists.{tab, upTo, flat, over, overAt}
 use Rattle.lists.proofs.Cases.{on}
-use Rattle.lists.proofs.Chosen.{over-none, over-more, over-length}
+use Rattle.lists.proofs.Chosen.{over-none, over-part, over-length}
+use Rattle.lists.proofs.OverAt.{over-at-none, length-over-at, over-at-join, over-at-more, over-at-pair}
 use Rattle.lists.proofs.Count.{count-upto}
 use Rattle.lists.proofs.Maps.{map-length}
 use Rattle.lists.proofs.Flat.{flat-snoc, tab-getD}
 use Rattle.lists.proofs.Memb.{memb-getD, below-memb}
 use Rattle.lists.proofs.Tab.{tab-suc, getD-tab, length-tab}
 use Rattle.layout.specs.declared.Answer.the-variants.{Done, NoRoom}
-use Rattle.layout.specs.Content.{Hyperedge, Table, liveVertices}
+use Rattle.layout.specs.Content.{Hyperedge, Table, liveVertices, noHyperedge}
 use Rattle.layout.specs.Layout.{limit, vertexCount, vertexWord, hyperedgeCount, hyperedgeAt, readHyperedges, read}
 use Rattle.layout.specs.WellFormed.{Formed}
 use Rattle.layout.specs.Answers.{result, listed}
 use Rattle.layout.proofs.Answers.{listed-over, listed-fits}
 use Rattle.layout.proofs.Read.{live-length, live-at}
 use Rattle.steps.specs.Matrices.{numberOf, cell}
-use Rattle.paths.specs.Paths.{noHyperedge, hyperedgeBy, stepHyperedge, low, high, noNumber, entriesAfter, costTo, costsFrom}
+use Rattle.paths.specs.Paths.{hyperedgeBy, stepHyperedge, low, high, noNumber, entriesAfter, costTo, costsFrom}
 use Rattle.paths.specs.Choices.{Chosen}
-use Rattle.paths.specs.Written.{Laid, noPath, laidAt, pathHead, stepWords, isReached, keyWords, keysBelow, Put}
+use Rattle.paths.specs.Written.{Laid, noPath, pathHead, stepWords, isReached, keyWords, keysBelow, WroteAt}
 use Rattle.paths.proofs.Values.{value-at}
 
 -- ---- words at a place
 
--- the front of a list, written over it
-over-front : (at : ℕ) (d : List ℕ) → at ≤ length d → over (take at d) d ≡ d
-unfolding over
-over-front at d l = ap (λ (k : ℕ). take at d ++ drop k d) (length-take-le at d l) ∙ take-append-drop at d
-
 -- what follows words that were written
-pub laid-on : (w xs d out : List ℕ) (at : ℕ) → out ≡ over w d → length w ≡ at → laidAt at xs out ≡ over (w ++ xs) d
-unfolding over
-laid-on w xs d out at e h =
-    let t : take at (w ++ drop (length w) d) ≡ w = take-at w (drop (length w) d) at h in
-    let n : length (w ++ xs) ≡ length w + length xs = length-append w xs in
-    rw e
-    (ap (λ (f : List ℕ). (f ++ xs) ++ drop (length (f ++ xs)) (w ++ drop (length w) d)) t
-    ∙ ap (λ (k : ℕ). (w ++ xs) ++ drop k (w ++ drop (length w) d)) n
-    ∙ ap (λ (r : List ℕ). (w ++ xs) ++ r) (sym (drop-drop (length xs) (length w) (w ++ drop (length w) d))
-    ∙ ap (drop (length xs)) (drop-at w (drop (length w) d) (length w) refl)
-    ∙ drop-drop (length xs) (length w) d ∙ ap (λ (k : ℕ). drop k d) (sym n)))
+pub laid-on : (w xs d out : List ℕ) (at : ℕ) → out ≡ over w d → length w ≡ at → overAt at xs out ≡ over (w ++ xs) d
+unfolding overAt
+laid-on w xs d out at e h = rw e (over-part w xs d at (sym h))
 
-pub laid-length : (at : ℕ) (xs out : List ℕ) → at + length xs ≤ length out → length (laidAt at xs out) ≡ length out
-laid-length at xs out l = over-length (take at out ++ xs) out (omega (arith, length-append (take at out) xs, length-take at out))
-
-module _ (at : ℕ) (out : List ℕ) where
-  one : (a : ℕ) → at < length out → set out at a ≡ over (take at out ++ (a ∷ [])) out
-  one a l =
-      ap (λ (d : List ℕ). set d at a) (sym (over-front at out (omega arith)))
-      ∙ over-more (take at out) out a at (length-take-le at out (omega arith)) l
-
-  pub two-words : (a b : ℕ) → at + 2 ≤ length out → set (set out at a) (at + 1) b ≡ laidAt at (a ∷ b ∷ []) out
-  two-words a b l =
-      let f : length (take at out) ≡ at = length-take-le at out (omega arith) in
-      ap (λ (d : List ℕ). set d (at + 1) b) (one a (omega arith))
-      ∙ over-more (take at out ++ (a ∷ [])) out b (at + 1) (omega (arith, length-append (take at out) (a ∷ []))) (omega arith)
-      ∙ ap (λ (w : List ℕ). over w out) (append-assoc (take at out) (a ∷ []) (b ∷ []))
-
-  pub three-words : (a b c : ℕ) → at + 3 ≤ length out → set (set (set out at a) (at + 1) b) (at + 2) c ≡ laidAt at (a ∷ b ∷ c ∷ []) out
-  three-words a b c l =
-      let f : length (take at out) ≡ at = length-take-le at out (omega arith) in
-      ap (λ (d : List ℕ). set d (at + 2) c) (two-words a b (omega arith))
-      ∙ over-more (take at out ++ (a ∷ b ∷ [])) out c (at + 2) (omega (arith, length-append (take at out) (a ∷ b ∷ []))) (omega arith)
-      ∙ ap (λ (w : List ℕ). over w out) (append-assoc (take at out) (a ∷ b ∷ []) (c ∷ []))
+pub three-words : (out : List ℕ) (at a b c : ℕ) → at + 3 ≤ length out → set (set (set out at a) (at + 1) b) (at + 2) c ≡ overAt at (a ∷ b ∷ c ∷ []) out
+three-words out at a b c l =
+    ap (λ (d : List ℕ). set d (at + 2) c) (over-at-pair out at a b (omega arith)) ∙ over-at-more at (a ∷ b ∷ []) out (omega arith) c (omega arith)
 
 -- ---- the pair
 
@@ -126,10 +95,10 @@ module _ (ws : List ℕ) (h : ℕ) where
 -- the entry of a step: p and q are what `vertex_number` and `number_at` found
 pub step-words : {ws : List ℕ} → Formed limit ws → (c : List ℕ) → Chosen true ws c → (a b : ℕ) → a < vertexCount ws → b < vertexCount ws
     → (p : ℕ) → p ≡ getD ws (vertexWord b) 0 → (q : ℕ) → q ≡ hyperedgeBy (read limit ws) (getD c (cell b a) 0) .number
-    → (at : ℕ) (out exit : List ℕ) → exit ≡ laidAt at (p ∷ q ∷ []) out → exit ≡ laidAt at (stepWords (read limit ws) a (b ∷ [])) out
+    → (at : ℕ) (out exit : List ℕ) → exit ≡ overAt at (p ∷ q ∷ []) out → exit ≡ overAt at (stepWords (read limit ws) a (b ∷ [])) out
 unfolding entriesAfter stepHyperedge
 step-words {ws} f c h a b la lb p ep q eq at out exit e =
-    e ∙ ap₂ (λ (x y : ℕ). laidAt at (x ∷ y ∷ []) out)
+    e ∙ ap₂ (λ (x y : ℕ). overAt at (x ∷ y ∷ []) out)
     (ep ∙ sym (live-at limit ws b lb))
     (eq ∙ ap (λ (k : ℕ). hyperedgeBy (read limit ws) k .number) (value-at h (f .shape .vertices-le) b a lb la))
 
@@ -147,7 +116,7 @@ pub record Putting (t : Table) (n i : ℕ) (l out₀ : List ℕ) (k a : ℕ) (ou
   pub below : a < n
   pub same : length out ≡ length out₀
   pub done : List ℕ
-  pub wrote : out ≡ over (take 5 out₀ ++ done) out₀
+  pub wrote : out ≡ overAt 5 done out₀
   pub size : length done ≡ k * 2
   pub left : done ++ stepWords t a (drop k l) ≡ stepWords t i l
 
@@ -158,34 +127,33 @@ module _ (t : Table) (n i : ℕ) (l out₀ : List ℕ) (room : 5 + length l * 2 
     below = h;
     same = refl;
     done = [];
-    wrote = sym (ap (λ (w : List ℕ). over w out₀) (append-nil (take 5 out₀)) ∙ over-front 5 out₀ (omega arith));
+    wrote = sym (over-at-none 5 out₀);
     size = refl;
     left = refl;
   }
 
   module _ {k a : ℕ} {out : List ℕ} (p : Putting t n i l out₀ k a out) where
-    pub putting-more : (b : ℕ) → k < length l → b < n → b ≡ getD l k 0 → (next : List ℕ) → next ≡ laidAt (5 + k * 2) (stepWords t a (b ∷ [])) out
+    pub putting-more : (b : ℕ) → k < length l → b < n → b ≡ getD l k 0 → (next : List ℕ) → next ≡ overAt (5 + k * 2) (stepWords t a (b ∷ [])) out
         → Putting t n i l out₀ (k + 1) b next
     unfolding entriesAfter
     putting-more b h hb eb next e = record {
       within = omega arith;
       below = hb;
-      same = ap length e ∙ laid-length (5 + k * 2) (stepWords t a (b ∷ [])) out (omega (arith, p .same)) ∙ p .same;
+      same = ap length e ∙ length-over-at (5 + k * 2) (stepWords t a (b ∷ [])) out (omega (arith, p .same)) ∙ p .same;
       done = p .done ++ stepWords t a (b ∷ []);
-      wrote = e ∙ laid-on (take 5 out₀ ++ p .done) (stepWords t a (b ∷ [])) out₀ out (5 + k * 2) (p .wrote)
-          (omega (arith, length-append (take 5 out₀) (p .done), length-take-le 5 out₀ (omega arith), p .size))
-          ∙ ap (λ (w : List ℕ). over w out₀) (append-assoc (take 5 out₀) (p .done) (stepWords t a (b ∷ [])));
+      wrote = e ∙ ap₂ (λ (at : ℕ) (d : List ℕ). overAt at (stepWords t a (b ∷ [])) d) (ap (λ (z : ℕ). 5 + z) (sym (p .size))) (p .wrote)
+          ∙ over-at-join 5 (p .done) out₀ (omega (arith, p .size)) (stepWords t a (b ∷ []));
       size = omega (arith, length-append (p .done) (stepWords t a (b ∷ [])), p .size);
       left = append-assoc (p .done) (stepWords t a (b ∷ [])) (stepWords t b (drop (k + 1) l))
           ∙ ap (λ (r : List ℕ). p .done ++ r) (ap (λ (j : ℕ). stepWords t a (b ∷ drop j l)) (add-one k) ∙ ap (λ (v : ℕ). stepWords t a (v ∷ drop (suc k) l)) eb ∙ ap (stepWords t a) (sym (drop-cons l k 0 h)))
           ∙ p .left;
     }
 
-    pub putting-end : length l ≤ k → out ≡ laidAt 5 (stepWords t i l) out₀
+    pub putting-end : length l ≤ k → out ≡ overAt 5 (stepWords t i l) out₀
     unfolding entriesAfter
     putting-end h =
         p .wrote
-        ∙ ap (λ (w : List ℕ). over (take 5 out₀ ++ w) out₀)
+        ∙ ap (λ (w : List ℕ). overAt 5 w out₀)
         (sym (append-nil (p .done)) ∙ ap (λ (r : List ℕ). p .done ++ stepWords t a r) (sym (ap (λ (j : ℕ). drop j l) (le-antisymm (p .within) h) ∙ drop-length l)) ∙ p .left)
 
 entries-length : (t : Table) (x : ℕ) (l : List ℕ) → length (entriesAfter t x l) ≡ length l * 2
@@ -206,7 +174,7 @@ module _ (ws : List ℕ) (i : ℕ) (cost steps : ℕ) (o : List ℕ) (h : Laid (
   walk-over out l = listed-over walkWords out (5 + steps * 2) needed l
 
   pub walk-fits : (out : List ℕ) → 5 + steps * 2 ≤ length out → i < vertexCount ws → (x : ℕ) → x ≡ getD ws (vertexWord i) 0
-      → (mid : List ℕ) → mid ≡ over (pathHead cost (steps + 1) x) out → (exit : List ℕ) → exit ≡ laidAt 5 (stepWords (read limit ws) i (take steps o)) mid
+      → (mid : List ℕ) → mid ≡ over (pathHead cost (steps + 1) x) out → (exit : List ℕ) → exit ≡ overAt 5 (stepWords (read limit ws) i (take steps o)) mid
       → result (Done (5 + steps * 2)) exit ≡ listed walkWords out
   walk-fits out l hi x ex mid em exit ee =
       listed-fits walkWords out (5 + steps * 2) needed exit l
@@ -232,21 +200,21 @@ module _ (m : List ℕ) (v k : ℕ) (e : k ≡ count (isReached m) v) where
 
 -- p is what `vertex_number` found of record v
 pub cost-laid : (ws : List ℕ) (v key : ℕ) → v < vertexCount ws → (p : ℕ) → p ≡ getD ws (vertexWord v) 0 → (at : ℕ) (out exit : List ℕ)
-    → exit ≡ laidAt at (p ∷ low (key / 65536) ∷ high (key / 65536) ∷ []) out → exit ≡ laidAt at (numberOf (read limit ws) v ∷ low (key / 65536) ∷ high (key / 65536) ∷ []) out
-cost-laid ws v key h p e at out exit q = q ∙ ap (λ (x : ℕ). laidAt at (x ∷ low (key / 65536) ∷ high (key / 65536) ∷ []) out) (e ∙ sym (live-at limit ws v h))
+    → exit ≡ overAt at (p ∷ low (key / 65536) ∷ high (key / 65536) ∷ []) out → exit ≡ overAt at (numberOf (read limit ws) v ∷ low (key / 65536) ∷ high (key / 65536) ∷ []) out
+cost-laid ws v key h p e at out exit q = q ∙ ap (λ (x : ℕ). overAt at (x ∷ low (key / 65536) ∷ high (key / 65536) ∷ []) out) (e ∙ sym (live-at limit ws v h))
 
 module _ (t : Table) (m d : List ℕ) (v : ℕ) where
-  pub record-no : (at : ℕ) (out : List ℕ) → at + 3 * bit (isReached m v) ≤ length out → (getD m v 0 ≡ 2 → ⊥) → Put at (keyWords t m d v) out at out
+  pub record-no : (at : ℕ) (out : List ℕ) → at + 3 * bit (isReached m v) ≤ length out → (getD m v 0 ≡ 2 → ⊥) → WroteAt at (keyWords t m d v) out at out
   unfolding keyWords
   record-no at out l h =
       let e : isReached m v ≡ false = ne-eqb (getD m v 0) 2 h in
       record {
-        wrote = rw e (sym (ap (λ (w : List ℕ). over w out) (append-nil (take at out)) ∙ over-front at out (omega arith)));
+        wrote = rw e (sym (over-at-none at out));
         after = rw e (omega arith);
       }
 
-  pub record-yes : (at : ℕ) (out exit : List ℕ) → getD m v 0 ≡ 2 → exit ≡ laidAt at (numberOf t v ∷ low (getD d v 0 / 65536) ∷ high (getD d v 0 / 65536) ∷ []) out
-      → Put at (keyWords t m d v) out (at + 3) exit
+  pub record-yes : (at : ℕ) (out exit : List ℕ) → getD m v 0 ≡ 2 → exit ≡ overAt at (numberOf t v ∷ low (getD d v 0 / 65536) ∷ high (getD d v 0 / 65536) ∷ []) out
+      → WroteAt at (keyWords t m d v) out (at + 3) exit
   unfolding keyWords
   record-yes at out exit h q = let e : isReached m v ≡ true = eq-eqb (getD m v 0) 2 h in record { wrote = rw e q; after = rw e }
 
@@ -260,7 +228,7 @@ module _ (t : Table) (m d : List ℕ) where
 
   keys-more : (k : ℕ) → keysBelow t m d (suc k) ≡ keysBelow t m d k ++ keyWords t m d k
   unfolding keysBelow
-  keys-more k = ap (flat (keyWords t m d)) (tab-suc (λ (v : ℕ). v) k) ∙ flat-snoc (keyWords t m d) (tab (λ v. v) k) k
+  keys-more k = ap (flat (keyWords t m d)) (tab-suc (λ (v : ℕ). v) k) ∙ flat-snoc (keyWords t m d) (upTo k) k
 
   pub keys-length : (k : ℕ) → length (keysBelow t m d k) ≡ count (isReached m) k * 3
   unfolding keysBelow tab flat
@@ -282,9 +250,9 @@ module _ (t : Table) (m d : List ℕ) where
     keyed-room l =
         omega (arith, h .same, h .place, keys-length v, keys-length (suc v), count-upto (isReached m) n (suc v) (omega arith), ap length (keys-more v), length-append (keysBelow t m d v) (keyWords t m d v), words-length v)
 
-    pub keyed-more : v < n → (next : ℕ) (exit : List ℕ) → Put at (keyWords t m d v) out next exit → Keyed out₀ (v + 1) next exit
+    pub keyed-more : v < n → (next : ℕ) (exit : List ℕ) → WroteAt at (keyWords t m d v) out next exit → Keyed out₀ (v + 1) next exit
     keyed-more l next exit p = record {
-      same = ap length (p .wrote) ∙ laid-length at (keyWords t m d v) out (omega (arith, keyed-room l, words-length v)) ∙ h .same;
+      same = ap length (p .wrote) ∙ length-over-at at (keyWords t m d v) out (omega (arith, keyed-room l, words-length v)) ∙ h .same;
       wrote = p .wrote ∙ laid-on (keysBelow t m d v) (keyWords t m d v) out₀ out at (h .wrote) (sym (h .place)) ∙ ap (λ (w : List ℕ). over w out₀) (sym (keys-more v) ∙ ap (keysBelow t m d) (sym (add-one v)));
       place = p .after ∙ omega (arith, h .place, length-append (keysBelow t m d v) (keyWords t m d v), ap length (keys-more v), ap (λ (k : ℕ). length (keysBelow t m d k)) (add-one v));
     }

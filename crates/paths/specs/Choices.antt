@@ -1,11 +1,12 @@
 -- What the code's arrays hold of a table: the weights by place, and the matrix of choices by record. Assumes nothing.
 use mathlib.Core.Path.{_≡_}
-use mathlib.Core.Bool.{Bool, true, false, cond}
+use mathlib.Core.Bool.{Bool, cond}
 use mathlib.Core.List.{List}
 use Prim.Native.Nat.{ℕ, suc, _*_, _≤_, _<_}
 use lib.Dec.{ltb}
 use lib.ListN.{length, getD}
 use Rattle.lists.specs.Tests.{_and_}
+use Rattle.lists.specs.Lists.{facing}
 use Rattle.layout.specs.Content.{Table}
 use Rattle.layout.specs.Layout.{limit, vertexLimit, vertexCount, read}
 use Rattle.steps.specs.Matrices.{numberOf, cell}
@@ -17,11 +18,6 @@ pub record Weights (t : Table) (k : ℕ) (w : List ℕ) : Type 0 where
   pub first : (i : ℕ) → i < k → getD w (suc i) 0 ≡ weightBy t (suc i)
   pub rest : (i : ℕ) → k ≤ i → getD w (suc i) 0 ≡ 0
   pub none : getD w 0 0 ≡ 0
-
--- against the direction of a step, where back
-abbrev pub facing : Bool → (ℕ → ℕ → ℕ) → ℕ → ℕ → ℕ
-facing true f x y = f y x
-facing false f x y = f x y
 
 -- of the records below n, the matrix has the value of every pair, and 0 of every other pair
 pub record Values (f : ℕ → ℕ → ℕ) (n : ℕ) (c : List ℕ) : Type 0 where
@@ -39,7 +35,3 @@ Choosing back ws k c = Values (among (read limit ws) (facing back (choiceAmong (
 -- the choices
 abbrev pub Chosen : Bool → List ℕ → List ℕ → Type 0
 Chosen back ws c = Values (among (read limit ws) (facing back (choice (read limit ws)))) (vertexCount ws) c
-
--- the weight at a place
-abbrev pub weightIn : List ℕ → ℕ → ℕ
-weightIn w k = getD w k 0

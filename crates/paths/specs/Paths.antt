@@ -7,15 +7,12 @@ use Prim.Native.Nat.{ℕ, zero, suc, _/_, _%_, _≤_, _<_}
 use lib.Dec.{ltb}
 use lib.ListN.{length, getD}
 use Rattle.lists.specs.Lists.{flat}
-use Rattle.layout.specs.Content.{Hyperedge, Table, liveVertices}
+use Rattle.layout.specs.Content.{Hyperedge, noHyperedge, Table, liveVertices}
 use Rattle.layout.specs.Steps.{makesStep, hasStep}
 use Rattle.layout.specs.Answers.{Result, onLiveVertex, onLiveVertices, listed}
 use Rattle.distance.specs.Best.{total, best}
 
 -- ---- the hyperedge of a step
-
-abbrev pub noHyperedge : Hyperedge
-noHyperedge = record { number = 0; weight = 0; members = [] }
 
 -- e is the step's hyperedge: it makes the step, none that makes it weighs less, and of those that weigh as much it has the lowest number
 pub record Lightest (t : Table) (x y : ℕ) (e : Hyperedge) : Type 0 where
@@ -33,6 +30,7 @@ abbrev pub hyperedgeBy : Table → ℕ → Hyperedge
 hyperedgeBy t zero = noHyperedge
 hyperedgeBy t (suc j) = getD (t .hyperedges) j noHyperedge
 
+-- the weight of the hyperedge at a place
 abbrev pub weightBy : Table → ℕ → ℕ
 weightBy t k = hyperedgeBy t k .weight
 
@@ -48,6 +46,7 @@ choiceAmong t (suc k) x y =
     let c = choiceAmong t k x y in
     cond (makesStep x y (hyperedgeBy t (suc k))) (lighter (weightBy t) c (suc k)) c
 
+-- the place of the step's hyperedge
 unfoldable pub choice : Table → ℕ → ℕ → ℕ
 choice t x y = choiceAmong t (length (t .hyperedges)) x y
 
@@ -65,6 +64,7 @@ stepCost t x y = weightBy t (choice t x y)
 unfoldable pub bestPath : Table → ℕ → ℕ → Option (List ℕ)
 bestPath t x y = best (hasStep t) (stepCost t) (liveVertices t) x y
 
+-- low word, high word
 abbrev pub low : ℕ → ℕ
 low c = c % 4294967296
 
@@ -86,7 +86,7 @@ pathWords t x none = 0 ∷ 0 ∷ 0 ∷ []
 pathWords t x (some l) =
     low (total (stepCost t) x l) ∷ high (total (stepCost t) x l) ∷ suc (length l) ∷ x ∷ noNumber ∷ entriesAfter t x l
 
--- 3 for the first, 3 for the second, 11
+-- get_dijkstra_connections_with_cost: 1, 3 for the first vertex, 3 for the second, 11
 unfoldable pub pairResult : ℕ → ℕ → List ℕ → Table → Result
 pairResult x y lent t = onLiveVertices t (x ∷ y ∷ []) lent (listed (pathWords t x (bestPath t x y)) lent)
 
@@ -97,6 +97,7 @@ unfoldable pub costWords : Table → ℕ → ℕ → Option (List ℕ) → List 
 costWords t x y none = []
 costWords t x y (some l) = y ∷ low (total (stepCost t) x l) ∷ high (total (stepCost t) x l) ∷ []
 
+-- the words of vertex y: none where it is not reached
 abbrev pub costTo : Table → ℕ → ℕ → List ℕ
 costTo t x y = costWords t x y (bestPath t x y)
 
@@ -104,6 +105,6 @@ costTo t x y = costWords t x y (bestPath t x y)
 unfoldable pub costsFrom : Table → ℕ → List ℕ
 costsFrom t x = flat (costTo t x) (liveVertices t)
 
--- 3, 11
+-- get_dijkstra_from: 1, 3, 11
 unfoldable pub fromResult : ℕ → List ℕ → Table → Result
 fromResult x lent t = onLiveVertex t x lent (listed (costsFrom t x) lent)

@@ -1,11 +1,11 @@
 -- What the code writes, word by word. Assumes nothing.
 use mathlib.Core.Path.{_≡_}
 use mathlib.Core.Bool.{Bool, cond}
-use mathlib.Core.List.{List, [], _∷_, _++_, map}
+use mathlib.Core.List.{List, [], _∷_, map}
 use Prim.Native.Nat.{ℕ, _+_, _/_, _≤_}
 use lib.Dec.{eqb}
 use lib.ListN.{length, getD, take}
-use Rattle.lists.specs.Lists.{Below, tab, flat, over}
+use Rattle.lists.specs.Lists.{Below, upTo, flat, overAt}
 use Rattle.layout.specs.Content.{Table}
 use Rattle.steps.specs.Matrices.{numberOf}
 use Rattle.paths.specs.Paths.{low, high, noNumber, entriesAfter, bestPath, pathWords}
@@ -23,10 +23,6 @@ pairBetween t i j = pathWords t (numberOf t i) (bestPath t (numberOf t i) (numbe
 -- no walk: cost 0, no entries
 abbrev pub noPath : List ℕ
 noPath = 0 ∷ 0 ∷ 0 ∷ []
-
--- words written at a place
-abbrev pub laidAt : ℕ → List ℕ → List ℕ → List ℕ
-laidAt at xs out = over (take at out ++ xs) out
 
 -- the cost, the count of entries and the first entry
 abbrev pub pathHead : ℕ → ℕ → ℕ → List ℕ
@@ -46,9 +42,9 @@ keyWords t m d v = cond (isReached m v) (numberOf t v ∷ low (getD d v 0 / 6553
 
 -- of the records below k
 unfoldable pub keysBelow : Table → List ℕ → List ℕ → ℕ → List ℕ
-keysBelow t m d k = flat (keyWords t m d) (tab (λ v. v) k)
+keysBelow t m d k = flat (keyWords t m d) (upTo k)
 
 -- the words xs were written at a place; `next` is the place after them
-pub record Put (at : ℕ) (xs out : List ℕ) (next : ℕ) (exit : List ℕ) : Type 0 where
-  pub wrote : exit ≡ laidAt at xs out
+pub record WroteAt (at : ℕ) (xs out : List ℕ) (next : ℕ) (exit : List ℕ) : Type 0 where
+  pub wrote : exit ≡ overAt at xs out
   pub after : next ≡ at + length xs

@@ -10,7 +10,8 @@ ghost use Rattle.layout.specs.WellFormed.{Formed};
 ghost use Rattle.steps.specs.Matrices.{cell};
 ghost use Rattle.distance.specs.Cost.{Listed};
 ghost use Rattle.paths.specs.Paths.{lighter};
-ghost use Rattle.paths.specs.Choices.{Weights, Choosing, Chosen, facing, weightIn};
+ghost use Rattle.lists.specs.Lists.{facing, wordAt};
+ghost use Rattle.paths.specs.Choices.{Weights, Choosing, Chosen};
 use layout::Found;
 use layout::VertexIndex;
 
@@ -44,7 +45,7 @@ fn place(t: &[u32], x: u32) -> usize
 
 // The weight at place h.
 fn weight_at(w: &[u32; 256], h: u8) -> u32
-    ensures { λ r. ⌜ r ≡ weightIn (now (w .entry)) h ⌝ }
+    ensures { λ r. ⌜ r ≡ wordAt (now (w .entry)) h ⌝ }
 {
     w[h as usize]
 }
@@ -70,7 +71,7 @@ fn choose(
     counts: &mut [u32; 256],
 )
     requires { ⌜ (a < vertexLimit) × (b < vertexLimit) × (0 < k) × (length (now c) ≡ vertexLimit * vertexLimit) × Listed (now c) (now lists) (now counts) ⌝ }
-    ensures { λ _. ⌜ (now (c .exit) ≡ set (now (c .entry)) (cell a b) (lighter (weightIn (now (w .entry))) (getD (now (c .entry)) (cell a b) 0) k)) × Listed (now (c .exit)) (now (lists .exit)) (now (counts .exit)) ⌝ }
+    ensures { λ _. ⌜ (now (c .exit) ≡ set (now (c .entry)) (cell a b) (lighter (wordAt (now (w .entry))) (getD (now (c .entry)) (cell a b) 0) k)) × Listed (now (c .exit)) (now (lists .exit)) (now (counts .exit)) ⌝ }
 {
     let h = c[a * layout::VERTEX_LIMIT + b];
     if h == 0 {
@@ -95,7 +96,7 @@ fn choose_step(
     counts: &mut [u32; 256],
 )
     requires { ⌜ (a < vertexLimit) × (b < vertexLimit) × (0 < k) × (length (now c) ≡ vertexLimit * vertexLimit) × Listed (now c) (now lists) (now counts) ⌝ }
-    ensures { λ _. ⌜ (now (c .exit) ≡ set (now (c .entry)) (facing back cell a b) (lighter (weightIn (now (w .entry))) (getD (now (c .entry)) (facing back cell a b) 0) k)) × Listed (now (c .exit)) (now (lists .exit)) (now (counts .exit)) ⌝ }
+    ensures { λ _. ⌜ (now (c .exit) ≡ set (now (c .entry)) (facing back cell a b) (lighter (wordAt (now (w .entry))) (getD (now (c .entry)) (facing back cell a b) 0) k)) × Listed (now (c .exit)) (now (lists .exit)) (now (counts .exit)) ⌝ }
 {
     if back {
         choose(w, k, b, a, c, lists, counts);

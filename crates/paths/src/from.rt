@@ -5,13 +5,13 @@ ghost use Prim.Native.Nat.{_+_, _*_, _/_, _<_, _≤_};
 ghost use lib.Dec.{eqb};
 ghost use lib.ListN.{length};
 ghost use Rattle.lists.specs.Tests.{bit, count};
-ghost use Rattle.lists.specs.Lists.{over};
+ghost use Rattle.lists.specs.Lists.{over, overAt};
 ghost use Rattle.layout.specs.Layout.{limit, vertexCount, read};
 ghost use Rattle.layout.specs.WellFormed.{Formed};
 ghost use Rattle.layout.specs.Answers.{result, listed};
 ghost use Rattle.steps.specs.Matrices.{numberOf};
 ghost use Rattle.paths.specs.Paths.{low, high, costsFrom};
-ghost use Rattle.paths.specs.Written.{laidAt, isReached, keyWords, keysBelow, Put};
+ghost use Rattle.paths.specs.Written.{isReached, keyWords, keysBelow, WroteAt};
 use crate::choices;
 use crate::words;
 use layout::Answer;
@@ -44,7 +44,7 @@ fn count_reached(n: usize, m: &[u8; 256]) -> usize
 fn put_cost(t: &[u32], v: usize, key: u64, at: usize, out: &mut [u32])
     requires { ⌜ Formed limit (now t) ⌝ }
     requires { ⌜ (v < vertexCount (now t)) × (at + 3 ≤ length (now out)) ⌝ }
-    ensures { λ _. ⌜ now (out .exit) ≡ laidAt at (numberOf (read limit (now (t .entry))) v ∷ low (key / 65536) ∷ high (key / 65536) ∷ []) (now (out .entry)) ⌝ }
+    ensures { λ _. ⌜ now (out .exit) ≡ overAt at (numberOf (read limit (now (t .entry))) v ∷ low (key / 65536) ∷ high (key / 65536) ∷ []) (now (out .entry)) ⌝ }
 {
     let cost = key / 65536;
     words::put_three(
@@ -67,7 +67,7 @@ fn put_record(
 ) -> usize
     requires { ⌜ Formed limit (now t) ⌝ }
     requires { ⌜ (v < vertexCount (now t)) × (at + 3 * bit (isReached (now m) v) ≤ length (now out)) ⌝ }
-    ensures { λ r. ⌜ Put at (keyWords (read limit (now (t .entry))) (now (m .entry)) (now (d .entry)) v) (now (out .entry)) r (now (out .exit)) ⌝ }
+    ensures { λ r. ⌜ WroteAt at (keyWords (read limit (now (t .entry))) (now (m .entry)) (now (d .entry)) v) (now (out .entry)) r (now (out .exit)) ⌝ }
 {
     if m[v] != 2 {
         return at;

@@ -4,14 +4,14 @@ ghost use mathlib.Core.Bool.{true};
 ghost use mathlib.Core.List.{[], _∷_, _++_};
 ghost use Prim.Native.Nat.{_+_, _*_, _<_, _≤_};
 ghost use lib.ListN.{length, take};
-ghost use Rattle.lists.specs.Lists.{over};
+ghost use Rattle.lists.specs.Lists.{over, overAt};
 ghost use Rattle.layout.specs.Layout.{limit, vertexCount, read};
 ghost use Rattle.layout.specs.WellFormed.{Formed};
 ghost use Rattle.layout.specs.Answers.{result, listed};
 ghost use Rattle.steps.specs.Matrices.{numberOf};
 ghost use Rattle.paths.specs.Paths.{hyperedgeBy};
 ghost use Rattle.paths.specs.Choices.{Chosen};
-ghost use Rattle.paths.specs.Written.{Laid, laidAt, noPath, pathHead, stepWords, pairBetween};
+ghost use Rattle.paths.specs.Written.{Laid, noPath, pathHead, stepWords, pairBetween};
 use crate::choices;
 use crate::words;
 use layout::Answer;
@@ -47,7 +47,7 @@ fn put_head(cost: u64, count: usize, x: u32, out: &mut [u32])
 fn put_step(t: &[u32], c: &[u8; 65536], a: usize, b: usize, at: usize, out: &mut [u32])
     requires { ⌜ Formed limit (now t) ⌝ }
     requires { ⌜ Chosen true (now t) (now c) × (a < vertexCount (now t)) × (b < vertexCount (now t)) × (at + 2 ≤ length (now out)) ⌝ }
-    ensures { λ _. ⌜ now (out .exit) ≡ laidAt at (stepWords (read limit (now (t .entry))) a (b ∷ [])) (now (out .entry)) ⌝ }
+    ensures { λ _. ⌜ now (out .exit) ≡ overAt at (stepWords (read limit (now (t .entry))) a (b ∷ [])) (now (out .entry)) ⌝ }
 {
     let h = c[b * layout::VERTEX_LIMIT + a];
     words::put_two(layout::vertex_number(t, b), number_at(t, h), at, out);
@@ -57,7 +57,7 @@ fn put_step(t: &[u32], c: &[u8; 65536], a: usize, b: usize, at: usize, out: &mut
 fn put_steps(t: &[u32], c: &[u8; 65536], i: usize, walk: &[u32; 256], steps: usize, out: &mut [u32])
     requires { ⌜ Formed limit (now t) ⌝ }
     requires { ⌜ Chosen true (now t) (now c) × (i < vertexCount (now t)) × Laid (vertexCount (now t)) steps (now walk) × (5 + steps * 2 ≤ length (now out)) ⌝ }
-    ensures { λ _. ⌜ now (out .exit) ≡ laidAt 5 (stepWords (read limit (now (t .entry))) i (take steps (now (walk .entry)))) (now (out .entry)) ⌝ }
+    ensures { λ _. ⌜ now (out .exit) ≡ overAt 5 (stepWords (read limit (now (t .entry))) i (take steps (now (walk .entry)))) (now (out .entry)) ⌝ }
 {
     let mut a = i;
     let mut k = 0;

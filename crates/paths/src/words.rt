@@ -3,12 +3,12 @@ ghost use mathlib.Core.Path.{_≡_};
 ghost use mathlib.Core.List.{[], _∷_};
 ghost use Prim.Native.Nat.{_+_, _≤_};
 ghost use lib.ListN.{length};
-ghost use Rattle.paths.specs.Written.{laidAt};
+ghost use Rattle.lists.specs.Lists.{overAt};
 
 // Two words at place `at`.
 pub fn put_two(a: u32, b: u32, at: usize, out: &mut [u32])
     requires { ⌜ at + 2 ≤ length (now out) ⌝ }
-    ensures { λ _. ⌜ now (out .exit) ≡ laidAt at (a ∷ b ∷ []) (now (out .entry)) ⌝ }
+    ensures { λ _. ⌜ now (out .exit) ≡ overAt at (a ∷ b ∷ []) (now (out .entry)) ⌝ }
 {
     out[at] = a;
     out[at + 1] = b;
@@ -17,7 +17,7 @@ pub fn put_two(a: u32, b: u32, at: usize, out: &mut [u32])
 // Three words at place `at`.
 pub fn put_three(a: u32, b: u32, c: u32, at: usize, out: &mut [u32])
     requires { ⌜ at + 3 ≤ length (now out) ⌝ }
-    ensures { λ _. ⌜ now (out .exit) ≡ laidAt at (a ∷ b ∷ c ∷ []) (now (out .entry)) ⌝ }
+    ensures { λ _. ⌜ now (out .exit) ≡ overAt at (a ∷ b ∷ c ∷ []) (now (out .entry)) ⌝ }
 {
     out[at] = a;
     out[at + 1] = b;

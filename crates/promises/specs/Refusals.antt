@@ -93,6 +93,7 @@ badText text = record { answer = BadText (faultyLine text); applies = not (accep
 
 -- ---- the order for each call; ws are the table's words
 
+-- the content that stands in the words
 abbrev pub content : List ℕ → Table
 content ws = read limit ws
 

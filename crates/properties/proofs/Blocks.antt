@@ -6,11 +6,10 @@ use native.Mathlib.Nat.{le-antisymm, suc-mul}
 use native.Mathlib.Numerals.{add-one}
 use native.Mathlib.Omega.{arith}
 use lib.ListN.{length, set}
-use Rattle.lists.specs.Lists.{over, flat, tab}
+use Rattle.lists.specs.Lists.{over, flat, tab, Wrote}
 use Rattle.lists.proofs.Flat.{flat-more}
 use Rattle.lists.proofs.Chosen.{over-none, over-more}
 use Rattle.lookups.proofs.Laid.{Laid, laid-end}
-use Rattle.properties.specs.State.{Wrote}
 
 module _ {A : Type 0} (f : A → List ℕ) (g : ℕ → A) where
   -- no block is above the most

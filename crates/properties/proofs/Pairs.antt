@@ -11,7 +11,7 @@ use Rattle.layout.specs.Content.{Hyperedge, Table}
 use Rattle.layout.specs.Layout.{hyperedgeLimit, hyperedgeCount, hyperedgeAt, read}
 use Rattle.layout.specs.WellFormed.{Formed}
 use Rattle.properties.specs.Properties.{isWithin, pair, pairsOf}
-use Rattle.properties.specs.State.{Wrote}
+use Rattle.lists.specs.Lists.{Wrote}
 use Rattle.properties.proofs.Blocks.{flat-most, wrote-none, wrote-two}
 
 pub pair-most : (t : Table) (a b : Hyperedge) → length (pair t a b) ≤ 2

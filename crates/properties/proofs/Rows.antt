@@ -11,7 +11,7 @@ use lib.ListN.{length, getD, drop, set, length-set, length-append, getD-replicat
 use lib.Seq.{getD-set-same, getD-set-other}
 use borrow.Author.Tests.{eq-eqb, ne-eqb}
 use Rattle.lists.specs.Tests.{_and_, bit, count, chosen}
-use Rattle.lists.specs.Lists.{any, filter, flat, tab, itself}
+use Rattle.lists.specs.Lists.{any, filter, flat, tab, itself, Wrote}
 use Rattle.lists.proofs.Cases.{on, on-same, clash, and-true, and-false-left}
 use Rattle.lists.proofs.Tab.{tab-suc, drop-tab, length-tab, getD-tab}
 use Rattle.lists.proofs.Count.{bit-le, count-ext, count-below, count-none}
@@ -25,7 +25,7 @@ use Rattle.steps.proofs.Any.{any-at, any-of}
 use Rattle.lookups.specs.State.{noMarks}
 use Rattle.lookups.proofs.Marking.{no-marks-length}
 use Rattle.properties.specs.Properties.{isWithin, hasSize, isIncluded, includedOfSize, included, totalOf, isSize, row, nestedness}
-use Rattle.properties.specs.State.{Sets, Including, Classed, sizeAt, rowIf, Wrote}
+use Rattle.properties.specs.State.{Sets, Including, Classed, sizeAt, rowIf}
 use Rattle.properties.proofs.Blocks.{wrote-none, wrote-three}
 
 -- ---- a search along the records: m is what `hyperedge_count` found, r what the code found of record i

@@ -6,7 +6,7 @@ use Prim.Native.Nat.{ℕ, _+_, _-_, _≤_, _<_}
 use native.Mathlib.Omega.{arith}
 use lib.ListN.{length, take, drop, set, length-set, length-drop, length-append}
 use Rattle.lists.specs.Tests.{count, chosen}
-use Rattle.lists.specs.Lists.{over, counted}
+use Rattle.lists.specs.Lists.{over, counted, wordAt}
 use Rattle.lists.proofs.Parts.{part-tail, back-tail}
 use Rattle.lists.proofs.Chosen.{over-none, over-more, over-part, over-length}
 use Rattle.layout.specs.declared.Answer.the-variants.{Done, NoRoom}
@@ -14,7 +14,7 @@ use Rattle.layout.specs.Content.{liveVertices}
 use Rattle.layout.specs.Layout.{vertexCount, read}
 use Rattle.layout.specs.Answers.{result, listed}
 use Rattle.layout.proofs.Answers.{listed-over, listed-fits}
-use Rattle.marks.specs.Marks.{isMarked, numberAt, marked}
+use Rattle.marks.specs.Marks.{isMarked, marked}
 use Rattle.marks.proofs.Marked.{picked-length, marked-are}
 use Rattle.properties.specs.Properties.{twice}
 
@@ -32,7 +32,7 @@ part-room mid k r l = rw (part-tail, length-drop) (omega arith)
 -- n is what `vertex_count` found, c what `count_marked` found
 module _ (L : ℕ) (ws : List ℕ) (marks : List Bool) (n c : ℕ) (e : n ≡ vertexCount ws) (q : c ≡ count (isMarked marks) n) where
   pub marked-count : c ≡ length (marked marks (liveVertices (read L ws)))
-  marked-count = q ∙ sym (picked-length (isMarked marks) (numberAt (liveVertices (read L ws))) n) ∙ ap length (marked-are L ws marks n e)
+  marked-count = q ∙ sym (picked-length (isMarked marks) (wordAt (liveVertices (read L ws))) n) ∙ ap length (marked-are L ws marks n e)
 
   pub counted-length : c + 1 ≡ length (counted (marked marks (liveVertices (read L ws))))
   counted-length = omega (arith, marked-count)
@@ -47,13 +47,13 @@ module _ (L : ℕ) (ws : List ℕ) (marks : List Bool) (n c : ℕ) (e : n ≡ ve
     pub counted-room : count (isMarked marks) n ≤ length (take (length (set out 0 c) - 1) (drop 1 (set out 0 c)))
     counted-room = part-room (set out 0 c) 1 (count (isMarked marks) n) (rw length-set (omega (arith, counted-length)))
 
-    pub counted-wrote : (exit : List ℕ) → exit ≡ over (map (numberAt (liveVertices (read L ws))) (chosen (isMarked marks) n)) (take (length (set out 0 c) - 1) (drop 1 (set out 0 c)))
+    pub counted-wrote : (exit : List ℕ) → exit ≡ over (map (wordAt (liveVertices (read L ws))) (chosen (isMarked marks) n)) (take (length (set out 0 c) - 1) (drop 1 (set out 0 c)))
         → take 1 (set out 0 c) ++ (exit ++ drop (length (set out 0 c) - 1) (drop 1 (set out 0 c))) ≡ over (counted (marked marks (liveVertices (read L ws)))) out
     counted-wrote exit w =
         over-after (c ∷ []) _ out (set out 0 c) exit 1 refl (ap (λ (d : List ℕ). set d 0 c) (sym (over-none out)) ∙ over-more [] out c 0 refl counted-some) w
         ∙ ap₂ (λ (k : ℕ) (xs : List ℕ). over (k ∷ xs) out) marked-count (marked-are L ws marks n e)
 
-    pub counted-same : (exit : List ℕ) → exit ≡ over (map (numberAt (liveVertices (read L ws))) (chosen (isMarked marks) n)) (take (length (set out 0 c) - 1) (drop 1 (set out 0 c)))
+    pub counted-same : (exit : List ℕ) → exit ≡ over (map (wordAt (liveVertices (read L ws))) (chosen (isMarked marks) n)) (take (length (set out 0 c) - 1) (drop 1 (set out 0 c)))
         → length (take 1 (set out 0 c) ++ (exit ++ drop (length (set out 0 c) - 1) (drop 1 (set out 0 c)))) ≡ length out
     counted-same exit w = ap length (counted-wrote exit w) ∙ over-length (counted (marked marks (liveVertices (read L ws)))) out l
 

@@ -6,7 +6,7 @@ use Prim.Native.Nat.{ℕ, _-_, _*_, _<_}
 use lib.Dec.{eqb}
 use lib.ListN.{length, getD, take, drop}
 use Rattle.lists.specs.Tests.{_and_}
-use Rattle.lists.specs.Lists.{memb, over}
+use Rattle.lists.specs.Lists.{memb}
 use Rattle.layout.specs.Content.{Hyperedge, Table}
 use Rattle.layout.specs.Layout.{limit, vertexLimit, vertexCount, hyperedgeCount, hyperedgeAt, read}
 use Rattle.marks.specs.Marks.{isMarked}
@@ -20,11 +20,6 @@ trimmed front back ms = take (length ms - back - front) (drop front ms)
 -- what is left of the list has v
 unfoldable pub inTrimmed : ℕ → ℕ → ℕ → Hyperedge → Bool
 inTrimmed front back v e = memb v (trimmed front back (e .members))
-
--- xs is written from the front of what was lent, and k is how many words that is
-pub record Wrote (xs lent : List ℕ) (k : ℕ) (exit : List ℕ) : Type 0 where
-  pub words : k ≡ length xs
-  pub wrote : exit ≡ over xs lent
 
 -- ---- the member sets of the hyperedge records
 

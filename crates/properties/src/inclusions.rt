@@ -2,13 +2,13 @@
 ghost use mathlib.Core.Path.{_≡_};
 ghost use Prim.Native.Nat.{_<_, _≤_};
 ghost use lib.ListN.{length};
-ghost use Rattle.lists.specs.Lists.{over};
+ghost use Rattle.lists.specs.Lists.{over, Wrote};
 ghost use Rattle.layout.specs.Layout.{limit, hyperedgeCount, hyperedgeAt, read};
 ghost use Rattle.layout.specs.WellFormed.{Formed};
 ghost use Rattle.layout.specs.Answers.{result};
 ghost use Rattle.properties.specs.Properties.{pair, pairsOf, inclusions};
 ghost use Rattle.properties.specs.Results.{inclusionsResult};
-ghost use Rattle.properties.specs.State.{Sets, Wrote};
+ghost use Rattle.properties.specs.State.{Sets};
 use layout::Answer;
 
 // How many words the pair of records a and b has.

@@ -5,7 +5,7 @@ ghost use mathlib.Core.List.{[]};
 ghost use Prim.Native.Nat.{ℕ, _+_, _<_, _≤_};
 ghost use lib.Dec.{eqb};
 ghost use lib.ListN.{length};
-ghost use Rattle.lists.specs.Lists.{counted};
+ghost use Rattle.lists.specs.Lists.{counted, Wrote};
 ghost use Rattle.layout.specs.Content.{liveVertices};
 ghost use Rattle.layout.specs.Layout.{limit, vertexLimit, hyperedgeCount, hyperedgeAt, read};
 ghost use Rattle.layout.specs.WellFormed.{Formed};
@@ -15,7 +15,7 @@ ghost use Rattle.cut.specs.Cut.{cutVerticesResult};
 ghost use Rattle.lookups.specs.State.{someOf, with, noMarks, MarkedBy};
 ghost use Rattle.properties.specs.Properties.{twice, uniform};
 ghost use Rattle.properties.specs.Results.{orphanVerticesResult, orphanHyperedgesResult, endpointsResult, uniformResult, inclusionsResult, nestednessResult};
-ghost use Rattle.properties.specs.State.{inTrimmed, Wrote};
+ghost use Rattle.properties.specs.State.{inTrimmed};
 
 mod inclusions;
 mod nestedness;

@@ -4,13 +4,13 @@ ghost use Prim.Native.Nat.{_<_, _≤_};
 ghost use lib.Dec.{eqb};
 ghost use lib.ListN.{length};
 ghost use Rattle.lists.specs.Tests.{_and_, bit, count};
-ghost use Rattle.lists.specs.Lists.{over};
+ghost use Rattle.lists.specs.Lists.{over, Wrote};
 ghost use Rattle.layout.specs.Layout.{limit, vertexLimit, hyperedgeCount, hyperedgeAt, read};
 ghost use Rattle.layout.specs.WellFormed.{Formed};
 ghost use Rattle.layout.specs.Answers.{result};
 ghost use Rattle.properties.specs.Properties.{isIncluded, nestedness};
 ghost use Rattle.properties.specs.Results.{nestednessResult};
-ghost use Rattle.properties.specs.State.{Sets, Including, Classed, sizeAt, rowIf, Wrote};
+ghost use Rattle.properties.specs.State.{Sets, Including, Classed, sizeAt, rowIf};
 use layout::Answer;
 
 // The set of record a is strictly within some other.

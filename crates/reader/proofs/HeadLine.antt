@@ -21,7 +21,7 @@ use Rattle.reader.specs.Lines.{sealedAt, Sealed, countsFit}
 use Rattle.reader.specs.Passes.{HeadStored, headWords}
 use Rattle.reader.proofs.Frame.{sealed-is, number-word-at}
 use Rattle.reader.proofs.Records.{low-append, frame-sealed, frame-stands}
-use Rattle.reader.proofs.Pasted.{put-in}
+use Rattle.reader.proofs.Puts.{put-in}
 
 module _ (text : List ℕ) where
   frame : List ℕ

@@ -26,7 +26,7 @@ use Rattle.reader.proofs.Numbers.{number-good, lowest-next}
 use Rattle.reader.proofs.HeadLine.{hyperedges-few, hyperedges-given}
 use Rattle.reader.proofs.HyperedgeLine.{fits-framed, fits-counted, fits-rest}
 use Rattle.reader.proofs.Words.{list-front}
-use Rattle.reader.proofs.Pasted.{put-before}
+use Rattle.reader.proofs.Puts.{put-before}
 
 -- ---- one line
 

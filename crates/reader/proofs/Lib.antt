@@ -7,7 +7,7 @@ pub mod Live
 pub mod Records
 pub mod HyperedgeLine
 pub mod Numbers
-pub mod Pasted
+pub mod Puts
 pub mod HeadLine
 pub mod VertexLines
 pub mod Verdict

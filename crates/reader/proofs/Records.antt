@@ -10,7 +10,8 @@ use borrow.Author.Tests.{le-leb, leb-true, eq-eqb, eqb-true, not-true, not-false
 use Rattle.lists.specs.Tests.{_and_}
 use Rattle.lists.specs.Lists.{all, isBelow}
 use Rattle.lists.proofs.Cases.{on, clash, and-left, and-right, and-both}
-use Rattle.frames.specs.Frames.{byteValues, numberBytes, vertexFrame, byteSum, sealed, line, vertexLine, vertexOf}
+use Rattle.layout.specs.Content.{vertexOf}
+use Rattle.frames.specs.Frames.{byteValues, numberBytes, vertexFrame, byteSum, sealed, line, vertexLine}
 use Rattle.frames.specs.Reading.{byteAt, numberAt, numberIn, weightIn, standsAt}
 use Rattle.frames.specs.Bytes.{bytesAt}
 use Rattle.frames.proofs.Lines.{sealed-sum}

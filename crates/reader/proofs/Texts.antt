@@ -18,7 +18,8 @@ use Rattle.frames.specs.Put.{Put}
 use Rattle.frames.specs.Reading.{verticesDue, hyperedgesDue, hyperedgePlace, headGood, hyperedgeGood, goodLines, accepted, faultyLine, readResult}
 use Rattle.frames.proofs.Laws.{put-length}
 use Rattle.reader.specs.Hyperedges.{VerticesStored, HyperedgesRead}
-use Rattle.reader.specs.Passes.{headWords, blank, HeadStored, HeadMade, VerticesRead, VerticesMade, verdict, TextRead, storedRead, answerOf}
+use Rattle.lists.specs.Lists.{blank}
+use Rattle.reader.specs.Passes.{headWords, HeadStored, HeadMade, VerticesRead, VerticesMade, verdict, TextRead, storedRead, answerOf}
 use Rattle.reader.proofs.HeadLine.{head-stored, vertices-few, hyperedges-few}
 use Rattle.reader.proofs.VertexLines.{stored-due, vertices-head, vertices-live, column-live}
 use Rattle.reader.proofs.Verdict.{verdict-head, verdict-vertex, verdict-hyperedge, verdict-on, verdict-none}

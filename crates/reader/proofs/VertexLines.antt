@@ -14,11 +14,10 @@ use Rattle.lists.proofs.Cases.{on-same, and-left, and-right}
 use Rattle.lists.proofs.Every.{every-at, every-on}
 use Rattle.lists.proofs.Tab.{tab-ext, tab-suc, length-tab, getD-tab, map-tab}
 use Rattle.lists.proofs.Flat.{flat-snoc, flat-at}
-use Rattle.layout.specs.Content.{vertexNumber, liveVertices}
+use Rattle.layout.specs.Content.{vertexNumber, liveVertices, vertexOf, noVertex}
 use Rattle.layout.specs.Layout.{limit, size, vertexLimit, vertexSize, verticesAt, vertexWord, nextVertexIn, vertexCount, vertexWords}
 use Rattle.layout.specs.WellFormed.{vertexColumn}
-use Rattle.layout.proofs.Back.{noVertex}
-use Rattle.frames.specs.Frames.{vertexOf, vertexLine}
+use Rattle.frames.specs.Frames.{vertexLine}
 use Rattle.frames.specs.Put.{Put}
 use Rattle.frames.specs.Reading.{nextVertexOf, verticesDue, vertexPlace, numberIn, weightIn, vertexIn, vertexNumberIn, contentOf, climbsTo, numberGood, standsAt, vertexGood}
 use Rattle.frames.proofs.Laws.{put-length, put-append, put-as}
@@ -28,7 +27,7 @@ use Rattle.reader.specs.Passes.{Live, HeadStored, VerticesRead}
 use Rattle.reader.proofs.Numbers.{number-good, lowest-first, lowest-next}
 use Rattle.reader.proofs.HeadLine.{head-room, vertices-few, vertices-given}
 use Rattle.reader.proofs.Records.{vertex-framed}
-use Rattle.reader.proofs.Pasted.{put-before, put-in}
+use Rattle.reader.proofs.Puts.{put-before, put-in}
 
 -- i vertices are judged and stored: the least number of the next one, the place of its line and the word that it goes to
 pub record VerticesSo (text before after : List ℕ) (low at to i : ℕ) : Type 0 where

@@ -6,22 +6,22 @@ use native.Mathlib.Nat.{le-antisymm}
 use native.Mathlib.Numerals.{add-one}
 use native.Mathlib.Omega.{arith}
 use lib.ListN.{length, set, take, drop, replicate}
-use lib.Seq.{set-split, take-at}
+use lib.Seq.{take-at}
 use Rattle.lists.specs.Lists.{tab, pad, over}
 use Rattle.lists.proofs.Flat.{length-pad}
 use Rattle.lists.proofs.Tab.{tab-suc, length-tab}
 use Rattle.layout.specs.Layout.{limit, recordSize, vertexWords, hyperedgeWords}
-use Rattle.frames.specs.Frames.{vertexOf}
+use Rattle.layout.specs.Content.{vertexOf}
+use Rattle.lists.proofs.OverAt.{set-over-at}
 use Rattle.frames.specs.Reading.{numberAt, numberIn, weightIn, countIn, memberIn, hyperedgeFrom}
-use Rattle.frames.specs.Put.{pasted, Put}
+use Rattle.frames.specs.Put.{Put}
 use Rattle.frames.proofs.Laws.{put-length, put-append, put-as, put-over}
 use Rattle.frames.proofs.Lines.{put-none}
 use Rattle.reader.specs.Lines.{Sealed}
 use Rattle.reader.proofs.Frame.{number-word-at}
 
 pub word-put : (to x : ℕ) (ws : List ℕ) → to < length ws → Put to 1 (x ∷ []) ws (set ws to x) (to + 1)
-unfolding pasted
-word-put to x ws h = record { sized = refl; fits = omega arith; reached = refl; wrote = set-split ws to x h ∙ ap (λ (n : ℕ). take to ws ++ (x ∷ drop n ws)) (sym (add-one to)) }
+word-put to x ws h = record { sized = refl; fits = omega arith; reached = refl; wrote = set-over-at ws to x h }
 
 -- k numbers by place: i of them
 module _ (f : ℕ → ℕ) where

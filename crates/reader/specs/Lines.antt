@@ -8,7 +8,8 @@ use lib.ListN.{length, getD}
 use Rattle.lists.specs.Tests.{_and_}
 use Rattle.lists.specs.Lists.{all, isBelow}
 use Rattle.layout.specs.Layout.{vertexLimit, hyperedgeLimit}
-use Rattle.frames.specs.Frames.{byteValues, byteSum, vertexOf, vertexLine}
+use Rattle.layout.specs.Content.{vertexOf}
+use Rattle.frames.specs.Frames.{byteValues, byteSum, vertexLine}
 use Rattle.frames.specs.Reading.{value, numberIn, weightIn, standsAt}
 use Rattle.frames.specs.Bytes.{bytesAt}
 
@@ -58,6 +59,7 @@ lowest number (suc i) = number i + 1
 unfoldable pub numberFits : ℕ → ℕ → ℕ → Bool
 numberFits x low high = leb low x and leb x high
 
+-- the vertex line at p: what the writer gives for it, and a number from low to high
 unfoldable pub vertexFits : List ℕ → ℕ → ℕ → ℕ → Bool
 vertexFits text p low high =
     standsAt text p (vertexLine (vertexOf (numberIn text p) (weightIn text p))) and numberFits (numberIn text p) low high

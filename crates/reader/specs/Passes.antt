@@ -4,9 +4,9 @@ use mathlib.Core.Path.{_≡_}
 use mathlib.Core.Bool.{true, false, cond}
 use mathlib.Core.List.{List, [], _∷_, _++_}
 use lib.Dec.{eqb}
-use lib.ListN.{length, getD, replicate}
+use lib.ListN.{length, getD}
 use Rattle.lists.specs.Tests.{every}
-use Rattle.lists.specs.Lists.{tab, flat, pad, Ascending}
+use Rattle.lists.specs.Lists.{tab, flat, blank, pad, Ascending}
 use Rattle.layout.specs.declared.Answer.{Answer}
 use Rattle.layout.specs.declared.Answer.the-variants.{Done, BadText}
 use Rattle.layout.specs.Layout.{limit, size, vertexLimit, hyperedgeLimit, vertexSize, recordSize, verticesAt, vertexWord, nextVertexIn, nextHyperedgeIn, vertexCount, hyperedgeCount, vertexWords, words}
@@ -41,10 +41,6 @@ pub record VerticesRead (text before after : List ℕ) (r : ℕ) : Type 0 where
   pub within : vertexPlace r ≤ length text
   pub put : Put verticesAt (r * vertexSize) (flat vertexWords (tab (vertexIn text) r)) before after (verticesAt + r * vertexSize)
   pub stopped : r < verticesDue text → vertexGood text r ≡ false
-
--- k words of 0
-unfoldable pub blank : ℕ → List ℕ
-blank k = replicate k 0
 
 -- the head's words in words of 0
 pub record HeadMade (text ws : List ℕ) : Type 0 where

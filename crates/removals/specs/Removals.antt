@@ -32,10 +32,12 @@ removeAll (r ∷ rs) ws = removeAll rs (remove r ws)
 
 -- ---- what they leave
 
+-- the removal names vertex v
 unfoldable pub isVertex : ℕ → Removal → Bool
 isVertex v (vertex w) = eqb v w
 isVertex v (hyperedge x) = false
 
+-- the removal names hyperedge x
 unfoldable pub isHyperedge : ℕ → Removal → Bool
 isHyperedge x (vertex v) = false
 isHyperedge x (hyperedge y) = eqb x y
@@ -47,6 +49,7 @@ staysVertex rs v = not (any (isVertex v) rs)
 unfoldable pub staysHyperedge : List Removal → ℕ → Bool
 staysHyperedge rs x = not (any (isHyperedge x) rs)
 
+-- the same of a vertex, and of a hyperedge, of the table
 unfoldable pub keptVertex : List Removal → Vertex → Bool
 keptVertex rs v = staysVertex rs (v .number)
 

@@ -3,7 +3,7 @@ use mathlib.Core.Path.{_≡_, refl}
 use mathlib.Core.Bool.{true}
 use mathlib.Core.List.{map}
 use Rattle.lists.specs.Tests.{_and_, every, chosen}
-use Rattle.lists.specs.Lists.{all, any, filter, flat, tab, otherThan, over, ascending}
+use Rattle.lists.specs.Lists.{all, any, filter, flat, tab, otherThan, over, ascending, sum}
 use Rattle.layout.specs.Content.{position, positionFrom, membersLive, numbered, valid}
 use Rattle.layout.specs.Steps.{stepsOf, isStep, makesStep, hasStep}
 use Rattle.layout.specs.WellFormed.{countFits, holdable}
@@ -17,7 +17,7 @@ use Rattle.distance.specs.Best.{lexLe, ahead, better, onward, bestOver, stay, b
 use Rattle.components.specs.Classes.{rooted, rootsFrom, classes}
 use Rattle.steps.specs.Matrices.{undirected, listsBoth, together}
 use Rattle.edits.specs.Edits.{without, hasMembers, removeVertex}
-use Rattle.lookups.specs.Lookups.{coMember, relates, isRelated, related, isMemberOf, hasMember, isShared, shared, hasEnd, places, placesIn, sum, degree, held, block, listing, connecting, adjacentEntry, fullAdjacent, weighs, verticesWeighing}
+use Rattle.lookups.specs.Lookups.{coMember, relates, isRelated, related, isMemberOf, hasMember, isShared, shared, hasEnd, places, placesIn, degree, held, block, listing, connecting, adjacentEntry, fullAdjacent, weighs, verticesWeighing}
 use Rattle.lookups.specs.Results.{relatedResult, onSeveral, intersectionsResult, degreeResult, listingResult, fullAdjacentResult}
 use Rattle.traversal.specs.Traversal.{listFrom, traversal, reachable, traversalResult, reachableResult}
 use Rattle.structural.specs.Sort.{sortOf, acyclic, sortResult, acyclicResult}

@@ -19,7 +19,7 @@ use Rattle.depth.specs.Dfs.{tried, tries, visits}
 use Rattle.depth.specs.Finish.{startAt, sweep, finished}
 use Rattle.distance.specs.Best.{lexLe, ahead, better, onward, bestOver, stay, bestWithin, best}
 use Rattle.components.specs.Classes.{rooted, rootsFrom, classes}
-use Rattle.strong.specs.Strong.{mutual, latestFirst}
+use Rattle.strong.specs.Strong.{mutuallyReached, latestFirst}
 use Rattle.steps.specs.Matrices.{listsBoth, together}
 use Rattle.edits.specs.Edits.{without, hasMembers, removeVertex}
 use Rattle.edits.specs.Results.{onSome, updateResult, removeVertexResult}
@@ -61,7 +61,7 @@ hold (c ∷ cs) e h =
 -- ---- the paper's sheets
 
 computed : map asked sheets ≡ map answered sheets
-unfolding sortResult acyclic sortOf greedy rest next available least hasStep makesStep isStep stepsOf any _and_ listed over pairResult onLive pathWords bestPath best bestWithin stay bestOver onward better ahead lexLe entriesAfter stepHyperedge stepCost choice choiceAmong lighter closureResult closureOf filter reachesOther reachable traversal listFrom position positionFrom bfs run spread push flat strongComponentsResult strongComponents classes rootsFrom rooted mutual latestFirst finished sweep startAt visits tries tried chosen removeVertexResult removeVertex without hasMembers otherThan listingResult listing block placesIn places inclusions pairsOf pair isWithin strictlyWithin P.within under memberSet every nestedness row included totalOf includedOfSize isIncluded hasSize isSize setSize cutVerticesResult cutVertices isCut partsSome parts isLinked recordOf together listsBoth updateResult onSome
+unfolding sortResult acyclic sortOf greedy rest next available least hasStep makesStep isStep stepsOf any _and_ listed over pairResult onLive pathWords bestPath best bestWithin stay bestOver onward better ahead lexLe entriesAfter stepHyperedge stepCost choice choiceAmong lighter closureResult closureOf filter reachesOther reachable traversal listFrom position positionFrom bfs run spread push flat strongComponentsResult strongComponents classes rootsFrom rooted mutuallyReached latestFirst finished sweep startAt visits tries tried chosen removeVertexResult removeVertex without hasMembers otherThan listingResult listing block placesIn places inclusions pairsOf pair isWithin strictlyWithin P.within under memberSet every nestedness row included totalOf includedOfSize isIncluded hasSize isSize setSize cutVerticesResult cutVertices isCut partsSome parts isLinked recordOf together listsBoth updateResult onSome
 computed = refl
 
 all-in-words : all inWords sheets ≡ true

@@ -3,7 +3,7 @@ use mathlib.Core.Bool.{true, false}
 use mathlib.Core.List.{List, [], _∷_}
 use Prim.Native.Nat.{ℕ}
 use Rattle.layout.specs.declared.Answer.the-variants.{Done, NoRoom}
-use Rattle.layout.specs.Content.{Table}
+use Rattle.layout.specs.Content.{Table, hyperedgeOf}
 use Rattle.layout.specs.Answers.{Result, result}
 use Rattle.lookups.specs.declared.Relation.the-variants.{From, To, Around}
 use Rattle.lookups.specs.Results.{relatedResult, intersectionsResult, degreeResult, connectingResult, fullHyperedgesResult, fullAdjacentResult, weighingResult, vertexIndexResult}
@@ -13,31 +13,38 @@ use Rattle.structural.specs.Sort.{sortResult, acyclicResult}
 use Rattle.structural.specs.Components.{connectedResult, connectedComponentsResult}
 use Rattle.cut.specs.Cut.{cutVerticesResult}
 use Rattle.properties.specs.Results.{orphanVerticesResult, endpointsResult, uniformResult}
-use Rattle.paths.specs.Paths.{pairResult, fromResult}
-use Rattle.sheets.specs.Sheets.{vertex, edge, table, G, K, Loop, Repeated, Case, lent, lists, none}
+use Rattle.paths.specs.Paths.{noNumber, pairResult, fromResult}
+use Rattle.sheets.specs.Sheets.{vertex, table, G, K, Loop, Repeated, Case, lent, gives}
 
 -- ---- tables
 
+-- no vertex
 abbrev pub None : Table
 None = table [] []
 
+-- [0,1], [1,2] and [2,3]
 abbrev pub Chain : Table
-Chain = table (vertex 0 ∷ vertex 1 ∷ vertex 2 ∷ vertex 3 ∷ []) (edge 0 0 (0 ∷ 1 ∷ []) ∷ edge 1 0 (1 ∷ 2 ∷ []) ∷ edge 2 0 (2 ∷ 3 ∷ []) ∷ [])
+Chain = table (vertex 0 ∷ vertex 1 ∷ vertex 2 ∷ vertex 3 ∷ []) (hyperedgeOf 0 0 (0 ∷ 1 ∷ []) ∷ hyperedgeOf 1 0 (1 ∷ 2 ∷ []) ∷ hyperedgeOf 2 0 (2 ∷ 3 ∷ []) ∷ [])
 
+-- [0,1], [1,2] and [2,0]
 abbrev pub Ring : Table
-Ring = table (vertex 0 ∷ vertex 1 ∷ vertex 2 ∷ []) (edge 0 0 (0 ∷ 1 ∷ []) ∷ edge 1 0 (1 ∷ 2 ∷ []) ∷ edge 2 0 (2 ∷ 0 ∷ []) ∷ [])
+Ring = table (vertex 0 ∷ vertex 1 ∷ vertex 2 ∷ []) (hyperedgeOf 0 0 (0 ∷ 1 ∷ []) ∷ hyperedgeOf 1 0 (1 ∷ 2 ∷ []) ∷ hyperedgeOf 2 0 (2 ∷ 0 ∷ []) ∷ [])
 
+-- [0,1,2] and [2,3,4]
 abbrev pub Shared : Table
-Shared = table (vertex 0 ∷ vertex 1 ∷ vertex 2 ∷ vertex 3 ∷ vertex 4 ∷ []) (edge 0 0 (0 ∷ 1 ∷ 2 ∷ []) ∷ edge 1 0 (2 ∷ 3 ∷ 4 ∷ []) ∷ [])
+Shared = table (vertex 0 ∷ vertex 1 ∷ vertex 2 ∷ vertex 3 ∷ vertex 4 ∷ []) (hyperedgeOf 0 0 (0 ∷ 1 ∷ 2 ∷ []) ∷ hyperedgeOf 1 0 (2 ∷ 3 ∷ 4 ∷ []) ∷ [])
 
+-- only [1,1]
 abbrev pub Lone : Table
-Lone = table (vertex 0 ∷ vertex 1 ∷ []) (edge 0 0 (1 ∷ 1 ∷ []) ∷ [])
+Lone = table (vertex 0 ∷ vertex 1 ∷ []) (hyperedgeOf 0 0 (1 ∷ 1 ∷ []) ∷ [])
 
+-- vertices 1, 3 and 4; [3,1] and [3,4]
 abbrev pub Gaps : Table
-Gaps = table (vertex 1 ∷ vertex 3 ∷ vertex 4 ∷ []) (edge 0 0 (3 ∷ 1 ∷ []) ∷ edge 1 0 (3 ∷ 4 ∷ []) ∷ [])
+Gaps = table (vertex 1 ∷ vertex 3 ∷ vertex 4 ∷ []) (hyperedgeOf 0 0 (3 ∷ 1 ∷ []) ∷ hyperedgeOf 1 0 (3 ∷ 4 ∷ []) ∷ [])
 
+-- [0,1] thrice, of weights 2, 1 and 1
 abbrev pub Tied : Table
-Tied = table (vertex 0 ∷ vertex 1 ∷ []) (edge 0 2 (0 ∷ 1 ∷ []) ∷ edge 1 1 (0 ∷ 1 ∷ []) ∷ edge 2 1 (0 ∷ 1 ∷ []) ∷ [])
+Tied = table (vertex 0 ∷ vertex 1 ∷ []) (hyperedgeOf 0 2 (0 ∷ 1 ∷ []) ∷ hyperedgeOf 1 1 (0 ∷ 1 ∷ []) ∷ hyperedgeOf 2 1 (0 ∷ 1 ∷ []) ∷ [])
 
 -- ---- cases
 
@@ -47,26 +54,26 @@ answers d = result (Done d) []
 
 -- adjacent vertices and neighbourhoods
 abbrev pub after-0 : Case
-after-0 = record { table = G; query = relatedResult From 0 (lent 2); answer = lists (1 ∷ 3 ∷ []) }
+after-0 = record { table = G; query = relatedResult From 0 (lent 2); answer = gives (1 ∷ 3 ∷ []) }
 
 abbrev pub before-2 : Case
-before-2 = record { table = G; query = relatedResult To 2 (lent 2); answer = lists (1 ∷ 3 ∷ []) }
+before-2 = record { table = G; query = relatedResult To 2 (lent 2); answer = gives (1 ∷ 3 ∷ []) }
 
 abbrev pub around-2 : Case
-around-2 = record { table = G; query = relatedResult Around 2 (lent 3); answer = lists (0 ∷ 1 ∷ 3 ∷ []) }
+around-2 = record { table = G; query = relatedResult Around 2 (lent 3); answer = gives (0 ∷ 1 ∷ 3 ∷ []) }
 
 abbrev pub around-4 : Case
-around-4 = record { table = G; query = relatedResult Around 4 (lent 0); answer = lists [] }
+around-4 = record { table = G; query = relatedResult Around 4 (lent 0); answer = gives [] }
 
 -- each adjacent vertex, its count, its hyperedges
 abbrev pub full-after-0 : Case
-full-after-0 = record { table = G; query = fullAdjacentResult false 0 (lent 6); answer = lists (1 ∷ 1 ∷ 0 ∷ 3 ∷ 1 ∷ 1 ∷ []) }
+full-after-0 = record { table = G; query = fullAdjacentResult false 0 (lent 6); answer = gives (1 ∷ 1 ∷ 0 ∷ 3 ∷ 1 ∷ 1 ∷ []) }
 
 abbrev pub full-before-1 : Case
-full-before-1 = record { table = K; query = fullAdjacentResult true 1 (lent 5); answer = lists (0 ∷ 3 ∷ 0 ∷ 1 ∷ 2 ∷ []) }
+full-before-1 = record { table = K; query = fullAdjacentResult true 1 (lent 5); answer = gives (0 ∷ 3 ∷ 0 ∷ 1 ∷ 2 ∷ []) }
 
 abbrev pub full-repeated : Case
-full-repeated = record { table = Repeated; query = fullAdjacentResult false 0 (lent 4); answer = lists (1 ∷ 2 ∷ 0 ∷ 0 ∷ []) }
+full-repeated = record { table = Repeated; query = fullAdjacentResult false 0 (lent 4); answer = gives (1 ∷ 2 ∷ 0 ∷ 0 ∷ []) }
 
 -- degrees count every place: in K each list steps from 0 once, and to 1 once
 abbrev pub out-of-0 : Case
@@ -77,42 +84,42 @@ into-1 = record { table = K; query = degreeResult true 1; answer = answers 3 }
 
 -- a second vertex that is not live gives an empty answer
 abbrev pub connecting-K : Case
-connecting-K = record { table = K; query = connectingResult 0 1 (lent 3); answer = lists (0 ∷ 1 ∷ 2 ∷ []) }
+connecting-K = record { table = K; query = connectingResult 0 1 (lent 3); answer = gives (0 ∷ 1 ∷ 2 ∷ []) }
 
 abbrev pub connecting-none : Case
-connecting-none = record { table = G; query = connectingResult 0 9 (lent 0); answer = lists [] }
+connecting-none = record { table = G; query = connectingResult 0 9 (lent 0); answer = gives [] }
 
 -- by weight, by vertex; a list to intersect may name a hyperedge twice
 abbrev pub weighing-2 : Case
-weighing-2 = record { table = G; query = weighingResult 2 (lent 1); answer = lists (2 ∷ []) }
+weighing-2 = record { table = G; query = weighingResult 2 (lent 1); answer = gives (2 ∷ []) }
 
 abbrev pub index-3 : Case
-index-3 = record { table = G; query = vertexIndexResult 3 (lent 1); answer = lists (3 ∷ []) }
+index-3 = record { table = G; query = vertexIndexResult 3 (lent 1); answer = gives (3 ∷ []) }
 
 abbrev pub holding-3 : Case
-holding-3 = record { table = G; query = fullHyperedgesResult 3 (lent 6); answer = lists (2 ∷ 0 ∷ 3 ∷ 2 ∷ 3 ∷ 2 ∷ []) }
+holding-3 = record { table = G; query = fullHyperedgesResult 3 (lent 6); answer = gives (2 ∷ 0 ∷ 3 ∷ 2 ∷ 3 ∷ 2 ∷ []) }
 
 abbrev pub intersecting : Case
-intersecting = record { table = G; query = intersectionsResult (0 ∷ 2 ∷ []) (lent 1); answer = lists (2 ∷ []) }
+intersecting = record { table = G; query = intersectionsResult (0 ∷ 2 ∷ []) (lent 1); answer = gives (2 ∷ []) }
 
 abbrev pub intersecting-twice : Case
-intersecting-twice = record { table = G; query = intersectionsResult (1 ∷ 1 ∷ []) (lent 2); answer = lists (0 ∷ 3 ∷ []) }
+intersecting-twice = record { table = G; query = intersectionsResult (1 ∷ 1 ∷ []) (lent 2); answer = gives (0 ∷ 3 ∷ []) }
 
 -- 1 and 3 are one step from 0, and 2 is two; depth first 1 leads to 2 before 3 is visited
 abbrev pub breadth-first : Case
-breadth-first = record { table = G; query = traversalResult BreadthFirst 0 (lent 4); answer = lists (0 ∷ 1 ∷ 3 ∷ 2 ∷ []) }
+breadth-first = record { table = G; query = traversalResult BreadthFirst 0 (lent 4); answer = gives (0 ∷ 1 ∷ 3 ∷ 2 ∷ []) }
 
 abbrev pub depth-first : Case
-depth-first = record { table = G; query = traversalResult DepthFirst 0 (lent 4); answer = lists (0 ∷ 1 ∷ 2 ∷ 3 ∷ []) }
+depth-first = record { table = G; query = traversalResult DepthFirst 0 (lent 4); answer = gives (0 ∷ 1 ∷ 2 ∷ 3 ∷ []) }
 
-abbrev pub reached : Case
-reached = record { table = G; query = reachableResult 3 2; answer = answers 1 }
+abbrev pub reached-2 : Case
+reached-2 = record { table = G; query = reachableResult 3 2; answer = answers 1 }
 
 abbrev pub not-back : Case
 not-back = record { table = G; query = reachableResult 2 3; answer = answers 0 }
 
-abbrev pub itself : Case
-itself = record { table = G; query = reachableResult 4 4; answer = answers 1 }
+abbrev pub reached-itself : Case
+reached-itself = record { table = G; query = reachableResult 4 4; answer = answers 1 }
 
 -- what is lent beyond the answer is kept; without room nothing is written
 abbrev pub sort-kept : Case
@@ -129,7 +136,7 @@ acyclic-loop = record { table = Loop; query = acyclicResult; answer = answers 0 
 
 -- 0 to 3 are linked, and 4 is alone
 abbrev pub components : Case
-components = record { table = G; query = connectedComponentsResult (lent 7); answer = lists (4 ∷ 0 ∷ 1 ∷ 2 ∷ 3 ∷ 1 ∷ 4 ∷ []) }
+components = record { table = G; query = connectedComponentsResult (lent 7); answer = gives (4 ∷ 0 ∷ 1 ∷ 2 ∷ 3 ∷ 1 ∷ 4 ∷ []) }
 
 abbrev pub components-no-room : Case
 components-no-room = record { table = G; query = connectedComponentsResult (lent 6); answer = result (NoRoom 7) (lent 6) }
@@ -139,13 +146,13 @@ not-connected = record { table = G; query = connectedResult; answer = answers 0 
 
 -- a lone vertex is both a source and a sink; one that steps to itself alone is neither
 abbrev pub orphans : Case
-orphans = record { table = G; query = orphanVerticesResult (lent 1); answer = lists (4 ∷ []) }
+orphans = record { table = G; query = orphanVerticesResult (lent 1); answer = gives (4 ∷ []) }
 
 abbrev pub ends : Case
-ends = record { table = G; query = endpointsResult (lent 6); answer = lists (2 ∷ 0 ∷ 4 ∷ 2 ∷ 2 ∷ 4 ∷ []) }
+ends = record { table = G; query = endpointsResult (lent 6); answer = gives (2 ∷ 0 ∷ 4 ∷ 2 ∷ 2 ∷ 4 ∷ []) }
 
 abbrev pub no-ends : Case
-no-ends = record { table = Loop; query = endpointsResult (lent 2); answer = lists (0 ∷ 0 ∷ []) }
+no-ends = record { table = Loop; query = endpointsResult (lent 2); answer = gives (0 ∷ 0 ∷ []) }
 
 -- repeats are counted; with no hyperedges the answer is yes
 abbrev pub uniform-loop : Case
@@ -159,33 +166,34 @@ uniform-none = record { table = None; query = uniformResult 7; answer = answers 
 
 -- a chain: all but its ends; a ring: none; two lists that share 2; a vertex that stands in a list alone and twice; numbers with gaps
 abbrev pub cut-chain : Case
-cut-chain = record { table = Chain; query = cutVerticesResult (lent 2); answer = lists (1 ∷ 2 ∷ []) }
+cut-chain = record { table = Chain; query = cutVerticesResult (lent 2); answer = gives (1 ∷ 2 ∷ []) }
 
 abbrev pub cut-ring : Case
-cut-ring = record { table = Ring; query = cutVerticesResult (lent 0); answer = lists [] }
+cut-ring = record { table = Ring; query = cutVerticesResult (lent 0); answer = gives [] }
 
 abbrev pub cut-shared : Case
-cut-shared = record { table = Shared; query = cutVerticesResult (lent 1); answer = lists (2 ∷ []) }
+cut-shared = record { table = Shared; query = cutVerticesResult (lent 1); answer = gives (2 ∷ []) }
 
 abbrev pub cut-lone : Case
-cut-lone = record { table = Lone; query = cutVerticesResult (lent 0); answer = lists [] }
+cut-lone = record { table = Lone; query = cutVerticesResult (lent 0); answer = gives [] }
 
 abbrev pub cut-gaps : Case
-cut-gaps = record { table = Gaps; query = cutVerticesResult (lent 1); answer = lists (3 ∷ []) }
+cut-gaps = record { table = Gaps; query = cutVerticesResult (lent 1); answer = gives (3 ∷ []) }
 
 -- the costs from 0; of least-weight hyperedges the lowest number
 abbrev pub costs-from-0 : Case
-costs-from-0 = record { table = G; query = fromResult 0 (lent 12); answer = lists (0 ∷ 0 ∷ 0 ∷ 1 ∷ 4 ∷ 0 ∷ 2 ∷ 3 ∷ 0 ∷ 3 ∷ 1 ∷ 0 ∷ []) }
+costs-from-0 = record { table = G; query = fromResult 0 (lent 12); answer = gives (0 ∷ 0 ∷ 0 ∷ 1 ∷ 4 ∷ 0 ∷ 2 ∷ 3 ∷ 0 ∷ 3 ∷ 1 ∷ 0 ∷ []) }
 
 abbrev pub tie : Case
-tie = record { table = Tied; query = pairResult 0 1 (lent 7); answer = lists (1 ∷ 0 ∷ 2 ∷ 0 ∷ none ∷ 1 ∷ 1 ∷ []) }
+tie = record { table = Tied; query = pairResult 0 1 (lent 7); answer = gives (1 ∷ 0 ∷ 2 ∷ 0 ∷ noNumber ∷ 1 ∷ 1 ∷ []) }
 
+-- all of them
 abbrev pub more : List Case
 more =
     after-0 ∷ before-2 ∷ around-2 ∷ around-4 ∷ full-after-0 ∷ full-before-1
     ∷ full-repeated ∷ out-of-0 ∷ into-1 ∷ connecting-K ∷ connecting-none ∷ weighing-2
     ∷ index-3 ∷ holding-3 ∷ intersecting ∷ intersecting-twice ∷ breadth-first ∷ depth-first
-    ∷ reached ∷ not-back ∷ itself ∷ sort-kept ∷ sort-no-room ∷ acyclic-G
+    ∷ reached-2 ∷ not-back ∷ reached-itself ∷ sort-kept ∷ sort-no-room ∷ acyclic-G
     ∷ acyclic-loop ∷ components ∷ components-no-room ∷ not-connected ∷ orphans ∷ ends
     ∷ no-ends ∷ uniform-loop ∷ uniform-K ∷ uniform-none ∷ cut-chain ∷ cut-ring
     ∷ cut-shared ∷ cut-lone ∷ cut-gaps ∷ costs-from-0 ∷ tie ∷ []

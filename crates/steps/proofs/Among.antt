@@ -8,13 +8,13 @@ use lib.Dec.{eqb}
 use lib.ListN.{length, getD}
 use borrow.Author.Tests.{eqb-true}
 use Rattle.lists.specs.Tests.{_and_}
-use Rattle.lists.specs.Lists.{any, memb}
+use Rattle.lists.specs.Lists.{any, memb, turned}
 use Rattle.lists.proofs.Cases.{clash, or-true, or-right, and-left, and-right, and-both}
 use Rattle.lists.proofs.All.{all-at}
 use Rattle.lists.proofs.Memb.{memb-self, memb-at}
 use Rattle.layout.specs.Content.{Hyperedge, Table, liveVertices, isLive, membersLive, valid}
 use Rattle.layout.specs.Steps.{stepsOf, isStep, makesStep, hasStep}
-use Rattle.steps.specs.Matrices.{undirected, listsBoth, together, turned}
+use Rattle.steps.specs.Matrices.{undirected, listsBoth, together}
 use Rattle.steps.proofs.Any.{any-at, any-of}
 
 -- both ends of the relation are live

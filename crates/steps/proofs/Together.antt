@@ -8,13 +8,13 @@ use lib.Dec.{eqb}
 use lib.ListN.{getD}
 use borrow.Author.Tests.{eq-eqb, eqb-true}
 use Rattle.lists.specs.Tests.{_and_}
-use Rattle.lists.specs.Lists.{any, memb}
+use Rattle.lists.specs.Lists.{any, memb, turned}
 use Rattle.lists.proofs.Cases.{clash, or-true, or-right, and-left, and-right, and-both}
 use Rattle.walks.specs.Walks.{Reach, here, step}
 use Rattle.walks.proofs.Walks.{reach-trans, reach-through, reach-map}
 use Rattle.layout.specs.Content.{Table}
 use Rattle.layout.specs.Steps.{stepsOf, isStep, makesStep, hasStep}
-use Rattle.steps.specs.Matrices.{undirected, listsBoth, together, turned, Related, UndirectedIn, TogetherIn}
+use Rattle.steps.specs.Matrices.{undirected, listsBoth, together, Related, UndirectedIn, TogetherIn}
 use Rattle.steps.proofs.Any.{any-at, any-of}
 use Rattle.steps.proofs.Among.{noHyperedge, step-together, together-swap}
 

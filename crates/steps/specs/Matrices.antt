@@ -6,7 +6,7 @@ use Prim.Native.Nat.{ℕ, _+_, _*_, _<_}
 use lib.Dec.{ltb}
 use lib.ListN.{length, getD}
 use Rattle.lists.specs.Tests.{_and_, bit}
-use Rattle.lists.specs.Lists.{any}
+use Rattle.lists.specs.Lists.{any, turned}
 use Rattle.layout.specs.Content.{Hyperedge, Table, liveVertices, lists}
 use Rattle.layout.specs.Layout.{vertexLimit}
 use Rattle.layout.specs.Steps.{hasStep}
@@ -27,9 +27,11 @@ together t x y = any (listsBoth x y) (t .hyperedges)
 abbrev pub Related : (ℕ → ℕ → Bool) → ℕ → ℕ → Type 0
 Related R x y = R x y ≡ true
 
+-- the same as a relation
 abbrev pub UndirectedIn : Table → ℕ → ℕ → Type 0
 UndirectedIn t = Related (undirected t)
 
+-- co-membership as a relation
 abbrev pub TogetherIn : Table → ℕ → ℕ → Type 0
 TogetherIn t = Related (together t)
 
@@ -41,11 +43,9 @@ numberOf t k = getD (liveVertices t) k 0
 abbrev pub between : Table → (ℕ → ℕ → Bool) → ℕ → ℕ → Bool
 between t R i j = R (numberOf t i) (numberOf t j)
 
+-- steps, steps turned round, and steps without direction, said of the records
 abbrev pub stepsBetween : Table → ℕ → ℕ → Bool
 stepsBetween t = between t (hasStep t)
-
-abbrev pub turned : (ℕ → ℕ → Bool) → ℕ → ℕ → Bool
-turned R x y = R y x
 
 abbrev pub turnedBetween : Table → ℕ → ℕ → Bool
 turnedBetween t = between t (turned (hasStep t))

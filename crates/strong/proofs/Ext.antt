@@ -10,7 +10,7 @@ use Rattle.depth.specs.Finish.{startAt, sweep, untouched, finished}
 use Rattle.depth.proofs.Dfs.{tried-ext}
 use Rattle.components.specs.Classes.{reached, classes}
 use Rattle.components.proofs.Roots.{classes-ext}
-use Rattle.strong.specs.Strong.{mutual, latestFirst, strong}
+use Rattle.strong.specs.Strong.{mutuallyReached, latestFirst, strong}
 use Rattle.strong.proofs.Latest.{latest-below}
 
 module _ (E F : ℕ → ℕ → Bool) (n : ℕ) (h : (i j : ℕ) → i < n → j < n → E i j ≡ F i j) where
@@ -36,7 +36,7 @@ module _ (E F : ℕ → ℕ → Bool) (n : ℕ) (h : (i j : ℕ) → i < n → j
   latest-ext = ap (λ (s : Progress). reverse (s .out)) (sweep-ext n 0 untouched (omega arith))
 
   pub strong-ext : n ≤ 256 → ((x y : ℕ) → x < n → y < n → reached E n x y ≡ reached F n x y) → strong E n ≡ strong F n
-  unfolding mutual
+  unfolding mutuallyReached
   strong-ext b r =
-      classes-ext (mutual E n) (mutual F n) n (λ x y lx ly. ap₂ (λ (p q : Bool). p and q) (r x y lx ly) (r y x ly lx)) (latestFirst E n) (latest-below E n b)
-      ∙ ap (classes (mutual F n) n) latest-ext
+      classes-ext (mutuallyReached E n) (mutuallyReached F n) n (λ x y lx ly. ap₂ (λ (p q : Bool). p and q) (r x y lx ly) (r y x ly lx)) (latestFirst E n) (latest-below E n b)
+      ∙ ap (classes (mutuallyReached F n) n) latest-ext

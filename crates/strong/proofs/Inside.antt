@@ -21,7 +21,7 @@ use Rattle.graph.proofs.Bfs.{push-old, bfs-sound, bfs-complete}
 use Rattle.graph.proofs.Held.{held-as}
 use Rattle.components.specs.Parts.{flagged}
 use Rattle.components.proofs.Parts.{flags-reached}
-use Rattle.strong.specs.Strong.{mutual}
+use Rattle.strong.specs.Strong.{mutuallyReached}
 use Rattle.strong.specs.State.{inside, Turned, Opened, Unparted}
 use Rattle.strong.proofs.Shared.{shared-both, shared-forth, shared-back, reach-forth, reach-back}
 
@@ -113,7 +113,7 @@ module _ (E F : ℕ → ℕ → Bool) (n : ℕ) (t : Turned E F n) (ids : List �
       free w lw (u r w lr lw (shared-both E n r w (bfs-complete E n r lr w q) (bfs-complete E n w lw r p)) z))
       (reach-back E F n t y))
 
-  pub class-shared : (v : ℕ) → v < n → flagged m v ≡ mutual E n r v
+  pub class-shared : (v : ℕ) → v < n → flagged m v ≡ mutuallyReached E n r v
   class-shared v l =
       flags-reached (inside E (flagged b)) n r m hm v l
       ∙ test-ext _ _

@@ -7,11 +7,10 @@ use native.Mathlib.Omega.{arith}
 use lib.Dec.{eqb}
 use lib.ListN.{length, getD, take, replicate, length-reverse}
 use lib.Seq.{take-suc, getD-take, length-take-le}
-use Rattle.lists.specs.Lists.{memb, Below}
+use Rattle.lists.specs.Lists.{memb, Below, turned}
 use Rattle.lists.proofs.Count.{pigeon}
 use Rattle.lists.proofs.Memb.{memb-getD, below-memb}
 use Rattle.lists.proofs.Cases.{on-same, clash}
-use Rattle.steps.specs.Matrices.{turned}
 use Rattle.steps.proofs.Any.{any-at, any-of}
 use Rattle.depth.specs.Finish.{finished}
 use Rattle.depth.specs.Swept.{Finishes}
@@ -19,7 +18,7 @@ use Rattle.depth.proofs.Finish.{finished-once, finished-below, finished-all}
 use Rattle.components.specs.Classes.{rootsOf}
 use Rattle.components.specs.Parts.{Tried, Parting, Partition}
 use Rattle.components.proofs.Parts.{parted-out, parted-in, parting-first, parting-room, parting-more, parting-end}
-use Rattle.strong.specs.Strong.{mutual, latestFirst}
+use Rattle.strong.specs.Strong.{mutuallyReached, latestFirst}
 use Rattle.strong.specs.State.{Unparted}
 use Rattle.strong.proofs.Shared.{shared-parts}
 
@@ -49,17 +48,17 @@ memb-reverse v a e = go a [] (rw e refl)
     go [] y p = p
     go (i ∷ x) y p = go x (i ∷ y) (swap (eqb v i) (memb v x) (memb v y) p)
 
--- ---- while roots are tried, what is mutual with a number in no class is in no class
+-- ---- while roots are tried, what is mutuallyReached with a number in no class is in no class
 
-pub parting-free : (E : ℕ → ℕ → Bool) {n : ℕ} {whole rest ids : List ℕ} {c : ℕ} → Parting (mutual E n) n whole rest ids c → Unparted E n ids
+pub parting-free : (E : ℕ → ℕ → Bool) {n : ℕ} {whole rest ids : List ℕ} {c : ℕ} → Parting (mutuallyReached E n) n whole rest ids c → Unparted E n ids
 parting-free E {n} {whole} {rest} {ids} h x y lx ly e z =
     on-same (getD ids y 0) 0 (λ s. s)
     (λ f.
     let g = h .parted in
-    let k = any-at (turned (mutual E n) y) (h .roots) 0 (parted-in g y ly f) in
+    let k = any-at (turned (mutuallyReached E n) y) (h .roots) 0 (parted-in g y ly f) in
     let r : ℕ = getD (h .roots) (k .0) 0 in
     let lr : r < n = below-memb n (h .roots) (g .below) r (memb-getD (h .roots) (k .0) (k .1)) in
-    clash (any-of (turned (mutual E n) x) (h .roots) 0 (k .0) (k .1) (shared-parts E n .meet r x y lr lx ly (k .2) e)) (parted-out g x lx z))
+    clash (any-of (turned (mutuallyReached E n) x) (h .roots) 0 (k .0) (k .1) (shared-parts E n .meet r x y lr lx ly (k .2) e)) (parted-out g x lx z))
 
 -- ---- the order
 
@@ -79,11 +78,11 @@ module _ (E : ℕ → ℕ → Bool) (n : ℕ) (small : n ≤ 256) where
   -- ---- the code's loop: t places of o have the finish order, and the roots of the first k are to be tried
 
   module _ {t : ℕ} {o : List ℕ} (f : Finishes E n t o) where
-    pub latest-first : Parting (mutual E n) n (rootsOf (mutual E n) (latestFirst E n)) (reverse (take t o)) (replicate 256 0) 0
+    pub latest-first : Parting (mutuallyReached E n) n (rootsOf (mutuallyReached E n) (latestFirst E n)) (reverse (take t o)) (replicate 256 0) 0
     unfolding latestFirst
     latest-first =
-        subst (λ (l : List ℕ). Parting (mutual E n) n (rootsOf (mutual E n) (reverse (finished E n))) (reverse l) (replicate 256 0) 0) (sym (f .is))
-        (parting-first (mutual E n) n (reverse (finished E n)) small latest-short)
+        subst (λ (l : List ℕ). Parting (mutuallyReached E n) n (rootsOf (mutuallyReached E n) (reverse (finished E n))) (reverse l) (replicate 256 0) 0) (sym (f .is))
+        (parting-first (mutuallyReached E n) n (reverse (finished E n)) small latest-short)
 
     pub latest-root : (k : ℕ) → k < t → getD o k 0 < n
     latest-root k lk =
@@ -91,19 +90,19 @@ module _ (E : ℕ → ℕ → Bool) (n : ℕ) (small : n ≤ 256) where
         subst (λ (x : ℕ). x < n) (getD-take t o k 0 lk)
         (below-memb n (take t o) (subst (Below n) (sym e) (finished-below E n small)) (getD (take t o) k 0) (memb-getD (take t o) k (omega (arith, length-take-le t o (omega (arith, f .long, f .short))))))
 
-    module _ {ids : List ℕ} {c k : ℕ} (h : Parting (mutual E n) n (rootsOf (mutual E n) (latestFirst E n)) (reverse (take k o)) ids c) where
-      at-root : 0 < k → k ≤ t → Parting (mutual E n) n (rootsOf (mutual E n) (latestFirst E n)) (getD o (k - 1) 0 ∷ reverse (take (k - 1) o)) ids c
-      at-root l b = subst (λ (r : List ℕ). Parting (mutual E n) n (rootsOf (mutual E n) (latestFirst E n)) r ids c) (reverse-last o k l (omega (arith, f .long, f .short))) h
+    module _ {ids : List ℕ} {c k : ℕ} (h : Parting (mutuallyReached E n) n (rootsOf (mutuallyReached E n) (latestFirst E n)) (reverse (take k o)) ids c) where
+      at-root : 0 < k → k ≤ t → Parting (mutuallyReached E n) n (rootsOf (mutuallyReached E n) (latestFirst E n)) (getD o (k - 1) 0 ∷ reverse (take (k - 1) o)) ids c
+      at-root l b = subst (λ (r : List ℕ). Parting (mutuallyReached E n) n (rootsOf (mutuallyReached E n) (latestFirst E n)) r ids c) (reverse-last o k l (omega (arith, f .long, f .short))) h
 
       pub latest-room : 0 < k → k ≤ t → c < 256
       latest-room l b = parting-room (at-root l b) small
 
-      pub latest-more : 0 < k → k ≤ t → {ids′ : List ℕ} {c′ : ℕ} → Tried (mutual E n) n (getD o (k - 1) 0) ids c ids′ c′
-          → Parting (mutual E n) n (rootsOf (mutual E n) (latestFirst E n)) (reverse (take (k - 1) o)) ids′ c′
+      pub latest-more : 0 < k → k ≤ t → {ids′ : List ℕ} {c′ : ℕ} → Tried (mutuallyReached E n) n (getD o (k - 1) 0) ids c ids′ c′
+          → Parting (mutuallyReached E n) n (rootsOf (mutuallyReached E n) (latestFirst E n)) (reverse (take (k - 1) o)) ids′ c′
       latest-more l b g = parting-more (shared-parts E n) (at-root l b) (latest-root (k - 1) (omega arith)) g
 
-      pub latest-end : k ≤ 0 → Partition (mutual E n) n (latestFirst E n) ids c
+      pub latest-end : k ≤ 0 → Partition (mutuallyReached E n) n (latestFirst E n) ids c
       latest-end l =
           let z : k ≡ 0 = omega arith in
           parting-end (shared-parts E n) latest-below latest-all
-          (subst (λ (i : ℕ). Parting (mutual E n) n (rootsOf (mutual E n) (latestFirst E n)) (reverse (take i o)) ids c) z h)
+          (subst (λ (i : ℕ). Parting (mutuallyReached E n) n (rootsOf (mutuallyReached E n) (latestFirst E n)) (reverse (take i o)) ids c) z h)

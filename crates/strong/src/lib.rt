@@ -8,7 +8,7 @@ ghost use Rattle.graph.specs.Reach.{matrix};
 ghost use Rattle.graph.specs.Bfs.{push, spread, bfs};
 ghost use Rattle.graph.specs.Held.{Held, Marks};
 ghost use Rattle.components.specs.Parts.{flagged, Tried, Partition};
-ghost use Rattle.strong.specs.Strong.{mutual, latestFirst};
+ghost use Rattle.strong.specs.Strong.{mutuallyReached, latestFirst};
 ghost use Rattle.strong.specs.State.{inside, Turned, Opened, Unparted};
 
 // The records that are in no class.
@@ -122,7 +122,7 @@ fn try_root(
     ids: &mut [u32; 256],
 ) -> u32
     requires { ⌜ (n ≤ vertexLimit) × (r < n) × (c < vertexLimit) × (length (now ids) ≡ vertexLimit) × Turned (matrix (now adj)) (matrix (now back)) n × Unparted (matrix (now adj)) n (now ids) ⌝ }
-    ensures { λ x. ⌜ Tried (mutual (matrix (now (adj .entry))) n) n r (now (ids .entry)) c (now (ids .exit)) x ⌝ }
+    ensures { λ x. ⌜ Tried (mutuallyReached (matrix (now (adj .entry))) n) n r (now (ids .entry)) c (now (ids .exit)) x ⌝ }
 {
     if ids[r] != 0 {
         return c;
@@ -140,7 +140,7 @@ fn try_root(
 // The strong components. Answers how many there are.
 pub fn part_strong(adj: &[u8; 65536], back: &[u8; 65536], n: usize, ids: &mut [u32; 256]) -> u32
     requires { ⌜ (n ≤ vertexLimit) × Turned (matrix (now adj)) (matrix (now back)) n ⌝ }
-    ensures { λ c. ⌜ Partition (mutual (matrix (now (adj .entry))) n) n (latestFirst (matrix (now (adj .entry))) n) (now (ids .exit)) c ⌝ }
+    ensures { λ c. ⌜ Partition (mutuallyReached (matrix (now (adj .entry))) n) n (latestFirst (matrix (now (adj .entry))) n) (now (ids .exit)) c ⌝ }
 {
     let mut order = [0u32; 256];
     let t = depth::finish_order(adj, n, &mut order);

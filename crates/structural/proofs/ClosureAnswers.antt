@@ -6,7 +6,7 @@ use Prim.Native.Nat.{ℕ, _<_}
 use lib.Dec.{eqb}
 use borrow.Author.Tests.{eq-eqb, ne-eqb, eqb-true, not-true}
 use Rattle.lists.specs.Tests.{_and_}
-use Rattle.lists.specs.Lists.{memb, filter, flat, tab}
+use Rattle.lists.specs.Lists.{memb, filter, flat, tab, upTo}
 use Rattle.lists.proofs.Cases.{clash, test-ext, and-left, and-right, and-both}
 use Rattle.lists.proofs.Tab.{map-tab}
 use Rattle.lists.proofs.Flat.{tab-getD}
@@ -27,7 +27,7 @@ use Rattle.steps.proofs.Among.{steps-among}
 use Rattle.steps.proofs.Records.{record-once, reach-numbers, reach-records}
 use Rattle.traversal.specs.Traversal.{reachable}
 use Rattle.traversal.proofs.Walks.{reachable-walk, walk-reachable}
-use Rattle.components.specs.Classes.{reached, upTo}
+use Rattle.components.specs.Classes.{reached}
 use Rattle.components.proofs.Blocks.{flat-map, blocks-ext}
 use Rattle.closure.specs.Pairs.{apart, secondsOf, rowWords, pairsWords}
 use Rattle.closure.specs.State.{Closure}

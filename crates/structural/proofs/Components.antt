@@ -6,7 +6,7 @@ use Prim.Native.Nat.{ℕ, _<_}
 use native.Mathlib.Omega.{arith}
 use lib.ListN.{length, getD}
 use Rattle.lists.specs.Tests.{every}
-use Rattle.lists.specs.Lists.{memb, Below, Ascending}
+use Rattle.lists.specs.Lists.{memb, Below, Ascending, upTo}
 use Rattle.lists.proofs.Every.{every-at, every-of}
 use Rattle.lists.proofs.Maps.{map-length}
 use Rattle.walks.specs.Walks.{Reach}
@@ -22,8 +22,8 @@ use Rattle.steps.proofs.Among.{steps-among, links-among, together-swap}
 use Rattle.steps.proofs.Records.{numbers-rise, record-once, record-of, reach-numbers, reach-records}
 use Rattle.steps.proofs.Together.{reach-swap, reach-together, reach-linked}
 use Rattle.traversal.proofs.Mapped.{memb-map, map-memb}
-use Rattle.components.specs.Classes.{reached, class, rootsOf, classes, upTo}
-use Rattle.components.specs.Parts.{Symmetric}
+use Rattle.components.specs.Classes.{reached, class, rootsOf, classes}
+use Rattle.graph.specs.Reach.{Symmetric}
 use Rattle.components.proofs.Roots.{Equivalence}
 use Rattle.components.proofs.Linked.{upto-below, upto-memb, reached-parts}
 use Rattle.components.proofs.Members.{chosen-passes, chosen-has, chosen-ascends, getD-map, class-some, class-only, class-joined, class-whole}

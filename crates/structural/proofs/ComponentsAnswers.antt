@@ -7,7 +7,7 @@ use native.Mathlib.Omega.{arith}
 use lib.ListN.{getD}
 use borrow.Author.Tests.{eq-eqb, ne-eqb}
 use Rattle.lists.specs.Tests.{bit, every}
-use Rattle.lists.specs.Lists.{memb, flat, counted}
+use Rattle.lists.specs.Lists.{memb, flat, counted, upTo}
 use Rattle.lists.proofs.Every.{every-ext, every-on, every-no, every-end}
 use Rattle.layout.specs.declared.Answer.the-variants.{Done}
 use Rattle.layout.specs.Layout.{limit, vertexCount, read}
@@ -15,19 +15,19 @@ use Rattle.layout.specs.WellFormed.{Formed}
 use Rattle.layout.specs.Answers.{Result, result, listed}
 use Rattle.layout.specs.Steps.{hasStep}
 use Rattle.layout.proofs.Read.{live-length}
-use Rattle.graph.specs.Reach.{matrix}
+use Rattle.graph.specs.Reach.{matrix, Symmetric}
 use Rattle.graph.specs.Bfs.{bfs}
 use Rattle.graph.specs.Held.{Marks}
 use Rattle.steps.specs.Matrices.{undirected, numberOf, stepsBetween, turnedBetween, undirectedBetween, Holds}
 use Rattle.steps.proofs.Holds.{holds-matrix}
 use Rattle.traversal.proofs.Ext.{bfs-ext}
-use Rattle.components.specs.Classes.{reached, classes, upTo}
-use Rattle.components.specs.Parts.{flagged, Symmetric, Partition, partWords}
+use Rattle.components.specs.Classes.{reached, classes}
+use Rattle.components.specs.Parts.{flagged, Partition, partWords}
 use Rattle.components.proofs.Roots.{classes-ext}
 use Rattle.components.proofs.Linked.{upto-below}
 use Rattle.components.proofs.Parts.{flags-reached}
 use Rattle.components.proofs.Blocks.{partition-words}
-use Rattle.strong.specs.Strong.{mutual, latestFirst, strong}
+use Rattle.strong.specs.Strong.{mutuallyReached, latestFirst, strong}
 use Rattle.strong.specs.State.{Turned}
 use Rattle.strong.proofs.Ext.{strong-ext}
 use Rattle.structural.specs.Components.{connected, connectedComponents, strongComponents, connectedResult, connectedComponentsResult, strongComponentsResult}
@@ -99,12 +99,12 @@ module _ {ws : List ℕ} (f : Formed limit ws) where
       classes-ext (reached (matrix m) N) (reached E N) N (λ x y l _. reached-ext E w x y l) (upTo N) (upto-below N) in
       q ∙ rw (e, live-length limit ws) (ap (λ (x : List ℕ). listed x lent) (partition-words (numberOf (read limit ws)) g ∙ ap (λ (x : List (List ℕ)). flat counted (map (map (numberOf (read limit ws))) x)) same))
 
-  pub strong-listed : {m : List ℕ} → Holds (stepsBetween (read limit ws)) (vertexCount ws) m → (n : ℕ) → n ≡ vertexCount ws → (ids : List ℕ) (c : ℕ) → Partition (mutual (matrix m) n) n (latestFirst (matrix m) n) ids c
+  pub strong-listed : {m : List ℕ} → Holds (stepsBetween (read limit ws)) (vertexCount ws) m → (n : ℕ) → n ≡ vertexCount ws → (ids : List ℕ) (c : ℕ) → Partition (mutuallyReached (matrix m) n) n (latestFirst (matrix m) n) ids c
       → (lent : List ℕ) (r : Result) → r ≡ listed (partWords (numberOf (read limit ws)) ids n c) lent → r ≡ strongComponentsResult lent (read limit ws)
   unfolding strongComponentsResult strongComponents
   strong-listed {m} w n e ids c h lent r q =
       let N : ℕ = vertexCount ws in
       let E : ℕ → ℕ → Bool = stepsBetween (read limit ws) in
-      let g : Partition (mutual (matrix m) N) N (latestFirst (matrix m) N) ids c = rw e at h in
+      let g : Partition (mutuallyReached (matrix m) N) N (latestFirst (matrix m) N) ids c = rw e at h in
       let same : strong (matrix m) N ≡ strong E N = strong-ext (matrix m) E N (holds-matrix w (f .shape .vertices-le)) (f .shape .vertices-le) (λ x y l _. reached-ext E w x y l) in
       q ∙ rw (e, live-length limit ws) (ap (λ (x : List ℕ). listed x lent) (partition-words (numberOf (read limit ws)) g ∙ ap (λ (x : List (List ℕ)). flat counted (map (map (numberOf (read limit ws))) x)) same))

@@ -21,12 +21,14 @@ seconds t x = filter (reachesOther t x) (liveVertices t)
 abbrev pub pairOf : ℕ → ℕ → List ℕ
 pairOf x y = x ∷ y ∷ []
 
+-- the pairs whose first is x
 abbrev pub pairsFrom : Table → ℕ → List ℕ
 pairsFrom t x = flat (pairOf x) (seconds t x)
 
+-- all pairs, by the first and then by the second
 unfoldable pub closureOf : Table → List ℕ
 closureOf t = flat (pairsFrom t) (liveVertices t)
 
--- 11
+-- get_transitive_closure: 1, 11
 unfoldable pub closureResult : List ℕ → Table → Result
 closureResult lent t = listed (closureOf t) lent

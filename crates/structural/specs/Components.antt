@@ -5,14 +5,14 @@ use mathlib.Core.List.{List, [], map}
 use Prim.Native.Nat.{ℕ, _<_}
 use lib.ListN.{length, getD}
 use Rattle.lists.specs.Tests.{bit, every}
-use Rattle.lists.specs.Lists.{memb, flat, Ascending, counted}
+use Rattle.lists.specs.Lists.{memb, flat, Ascending, counted, upTo}
 use Rattle.walks.specs.Walks.{Reach}
 use Rattle.layout.specs.declared.Answer.the-variants.{Done}
 use Rattle.layout.specs.Content.{Table, liveVertices, isLive}
 use Rattle.layout.specs.Steps.{StepIn}
 use Rattle.layout.specs.Answers.{Result, result, listed}
 use Rattle.steps.specs.Matrices.{TogetherIn, numberOf, stepsBetween, undirectedBetween}
-use Rattle.components.specs.Classes.{reached, classes, upTo}
+use Rattle.components.specs.Classes.{reached, classes}
 use Rattle.strong.specs.Strong.{strong}
 
 -- x and y are linked through co-membership
@@ -36,6 +36,7 @@ pub record Components (R : ℕ → ℕ → Type 0) (live : List ℕ) (cs : List 
 
 -- ---- computed by record: the records ascend by number
 
+-- how many vertices are live
 abbrev pub liveCount : Table → ℕ
 liveCount t = length (liveVertices t)
 
@@ -53,13 +54,14 @@ strongComponents t = map (map (numberOf t)) (strong (stepsBetween t) (liveCount 
 
 -- ---- answers
 
+-- is_connected: 1; then yes or no
 unfoldable pub connectedResult : Table → Result
 connectedResult t = result (Done (bit (connected t))) []
 
--- each component is its length and its members; 11
+-- connected_components: 1, 11; each component is its length and its members
 unfoldable pub connectedComponentsResult : List ℕ → Table → Result
 connectedComponentsResult lent t = listed (flat counted (connectedComponents t)) lent
 
--- 11
+-- strongly_connected_components: 1, 11; the same
 unfoldable pub strongComponentsResult : List ℕ → Table → Result
 strongComponentsResult lent t = listed (flat counted (strongComponents t)) lent

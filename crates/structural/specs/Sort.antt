@@ -31,10 +31,10 @@ sortOf t = map (numberOf t) (greedy (stepsBetween t) (length (liveVertices t)))
 unfoldable pub acyclic : Table → Bool
 acyclic t = eqb (length (sortOf t)) (length (liveVertices t))
 
--- 9, 11
+-- topological_sort: 1, 9, 11
 unfoldable pub sortResult : List ℕ → Table → Result
 sortResult lent t = cond (acyclic t) (listed (sortOf t) lent) (result ClosedWalk lent)
 
--- no where the sort meets 9
+-- is_acyclic: 1; then no where the sort meets 9, else yes
 unfoldable pub acyclicResult : Table → Result
 acyclicResult t = result (Done (bit (acyclic t))) []

@@ -31,10 +31,10 @@ traversal how t x = listFrom how t (place (position x (liveVertices t)))
 unfoldable pub reachable : Table → ℕ → ℕ → Bool
 reachable t x y = memb y (traversal BreadthFirst t x)
 
--- 3, 11
+-- get_bfs and get_dfs: 1, 3, 11
 unfoldable pub traversalResult : Order → ℕ → List ℕ → Table → Result
 traversalResult how v lent t = onLiveVertex t v lent (listed (traversal how t v) lent)
 
--- 3 for the first, 3 for the second
+-- is_reachable: 1, 3 for the first vertex, 3 for the second; then yes or no
 unfoldable pub reachableResult : ℕ → ℕ → Table → Result
 reachableResult x y t = onLiveVertices t (x ∷ y ∷ []) [] (result (Done (bit (reachable t x y))) [])

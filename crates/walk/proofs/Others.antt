@@ -18,7 +18,8 @@ use Rattle.layout.specs.WellFormed.{Formed}
 use Rattle.layout.proofs.Read.{members-le}
 use Rattle.steps.specs.Matrices.{cell}
 use Rattle.lists.proofs.Cases.{not-none}
-use Rattle.walk.specs.Walk.{isFirstOther, memberAt, otherMembers, walker, xorshift, toOneOf}
+use Rattle.lists.specs.Lists.{wordAt}
+use Rattle.walk.specs.Walk.{isFirstOther, otherMembers, walker, xorshift, toOneOf}
 use Rattle.walk.specs.Passes.{isFirst, Firsts}
 use Rattle.walk.proofs.FirstPlaces.{first-mark}
 
@@ -39,7 +40,7 @@ other-first ms v i n ws j w em lj li = first-mark ws w j i ms em lj li ∙ rw (n
 
 others-count : (v : ℕ) (ms : List ℕ) → length (otherMembers v ms) ≡ count (isFirstOther v ms) (length ms)
 unfolding otherMembers
-others-count v ms = map-length (memberAt ms) (chosen (isFirstOther v ms) (length ms)) ∙ chosen-count (isFirstOther v ms) (length ms)
+others-count v ms = map-length (wordAt ms) (chosen (isFirstOther v ms) (length ms)) ∙ chosen-count (isFirstOther v ms) (length ms)
 
 counted-all : (v : ℕ) (ms : List ℕ) (c i : ℕ) → c ≡ count (isFirstOther v ms) i → i ≤ length ms → length ms ≤ i → c ≡ length (otherMembers v ms)
 counted-all v ms c i inv a b = inv ∙ ap (count (isFirstOther v ms)) (le-antisymm a b) ∙ sym (others-count v ms)
@@ -52,7 +53,7 @@ pub record Picked (v : ℕ) (ms found : List ℕ) (c i : ℕ) : Type 0 where
   pub at-most : c ≤ i
   pub counted : c ≡ count (isFirstOther v ms) i
   pub sized : length found ≡ vertexLimit
-  pub taken : take c found ≡ map (memberAt ms) (chosen (isFirstOther v ms) i)
+  pub taken : take c found ≡ map (wordAt ms) (chosen (isFirstOther v ms) i)
 
 -- ms are the members of record j
 pub members-fit : (ws : List ℕ) → Formed limit ws → (j : ℕ) → j < hyperedgeCount ws → (ms : List ℕ) → ms ≡ membersAt limit ws j → length ms ≤ vertexLimit
@@ -102,7 +103,7 @@ module _ (v : ℕ) (ms found : List ℕ) (c i : ℕ) (inv : Picked v ms found c 
   module _ (h : length ms ≤ i) (ks : List ℕ) (e : ms ≡ ks) where
     pub picked-all : take c found ≡ otherMembers v ks
     unfolding otherMembers
-    picked-all = inv .taken ∙ ap (λ (k : ℕ). map (memberAt ms) (chosen (isFirstOther v ms) k)) (le-antisymm (inv .within) h) ∙ ap (otherMembers v) e
+    picked-all = inv .taken ∙ ap (λ (k : ℕ). map (wordAt ms) (chosen (isFirstOther v ms) k)) (le-antisymm (inv .within) h) ∙ ap (otherMembers v) e
 
     pub picked-many : c ≡ length (otherMembers v ks)
     picked-many = counted-all v ms c i (inv .counted) (inv .within) h ∙ ap (λ (l : List ℕ). length (otherMembers v l)) e

@@ -8,8 +8,8 @@ use lib.IntN.{pos}
 use lib.Ieee.{Float, fin, binary64, ofInt, div, mul, lt}
 use lib.ListN.{length, getD, take}
 use Rattle.lists.specs.Tests.{chosen}
-use Rattle.lists.specs.Lists.{memb}
-use Rattle.layout.specs.Content.{Hyperedge, Table, hyperedgesOf}
+use Rattle.lists.specs.Lists.{memb, wordAt, sum}
+use Rattle.layout.specs.Content.{Hyperedge, Table, hyperedgeWeight, hyperedgesOf}
 use Rattle.layout.specs.Answers.{Result, onLiveVertex, listed}
 use Rattle.walk.specs.declared.Walker.{Walker}
 
@@ -23,6 +23,7 @@ rightSeven x = bitXor x (x / 2 ^ 7)
 abbrev pub leftSeventeen : ℕ → ℕ
 leftSeventeen x = bitXor x (x * 2 ^ 17 % 2 ^ 64)
 
+-- `xorshift64`: the new state, which is the draw
 unfoldable pub xorshift : ℕ → ℕ
 xorshift state = leftSeventeen (rightSeven (leftThirteen state))
 
@@ -40,9 +41,9 @@ sample draw total = mul binary64 (div binary64 (float draw) two64) (float total)
 
 -- ---- the hyperedge
 
-unfoldable pub totalWeight : List Hyperedge → ℕ
-totalWeight [] = 0
-totalWeight (e ∷ es) = e .weight + totalWeight es
+-- the total weight
+abbrev pub totalWeight : List Hyperedge → ℕ
+totalWeight es = sum hyperedgeWeight es
 
 -- the last of e and es
 unfoldable pub lastOf : Hyperedge → List Hyperedge → Hyperedge
@@ -60,13 +61,11 @@ firstGreater x other sum (e ∷ es) = cond (lt x (float (sum + e .weight))) e (f
 unfoldable pub isFirstOther : ℕ → List ℕ → ℕ → Bool
 isFirstOther v ms i = not (memb (getD ms i 0) (v ∷ take i ms))
 
-abbrev pub memberAt : List ℕ → ℕ → ℕ
-memberAt ms i = getD ms i 0
-
 -- the distinct other members, in order of first place
 unfoldable pub otherMembers : ℕ → List ℕ → List ℕ
-otherMembers v ms = map (memberAt ms) (chosen (isFirstOther v ms) (length ms))
+otherMembers v ms = map (wordAt ms) (chosen (isFirstOther v ms) (length ms))
 
+-- a vertex and a state
 abbrev pub walker : ℕ → ℕ → Walker
 walker v state = record { at = v; state = state }
 
@@ -84,6 +83,7 @@ moveAlong w (e ∷ es) =
     toOneOf (w .at) (xorshift (w .state))
     (otherMembers (w .at) (firstGreater (sample (xorshift (w .state)) (totalWeight (e ∷ es))) (lastOf e es) 0 (e ∷ es) .members))
 
+-- one move from where the walk is
 unfoldable pub move : Table → Walker → Walker
 move t w = moveAlong w (hyperedgesOf t (w .at))
 
@@ -92,6 +92,7 @@ unfoldable pub walkFrom : Table → Walker → ℕ → List ℕ
 walkFrom t w zero = []
 walkFrom t w (suc n) = w .at ∷ walkFrom t (move t w) n
 
+-- the most steps of a walk
 abbrev pub stepLimit : ℕ
 stepLimit = 4096
 
@@ -107,6 +108,6 @@ firstState seed = cond (eqb seed 0) 1 seed
 unfoldable pub walk : Table → ℕ → ℕ → ℕ → List ℕ
 walk t start steps seed = walkFrom t (walker start (firstState seed)) (cut steps + 1)
 
--- 3, 11
+-- random_walk: 1, 3, 11
 unfoldable pub walkResult : ℕ → ℕ → ℕ → List ℕ → Table → Result
 walkResult start steps seed lent t = onLiveVertex t start lent (listed (walk t start steps seed) lent)

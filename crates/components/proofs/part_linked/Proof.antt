@@ -3,7 +3,8 @@ use Prim.Native.Nat.{_≤_, _-_}
 use native.Mathlib.Omega.{arith}
 use lib.ListN.{drop}
 use Rattle.graph.specs.Reach.{matrix}
-use Rattle.components.specs.Classes.{reached, rootsOf, upTo}
+use Rattle.lists.specs.Lists.{upTo}
+use Rattle.components.specs.Classes.{reached, rootsOf}
 use Rattle.components.specs.Parts.{Parting}
 use Rattle.components.proofs.Linked.{linked-first, linked-room, linked-more, linked-end}
 use Rattle.components.proofs.part_linked.Statement.{statement}

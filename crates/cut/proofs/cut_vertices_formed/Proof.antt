@@ -1,7 +1,7 @@
 -- `cut::cut_vertices_formed` meets its contract. Assumes nothing.
 use mathlib.Core.Bool.{Bool, false}
 use lib.ListN.{length-replicate}
-use Rattle.cut.proofs.Cuts.{mirrored-by, cuts-listed}
+use Rattle.cut.proofs.Cuts.{symmetric-by, cuts-listed}
 use borrow.Author.Needs.{needs}
 use Rattle.cut.proofs.cut_vertices_formed.Statement.{statement}
 use Rattle.cut.proofs.cut_vertices_formed.Tie as tie
@@ -13,7 +13,7 @@ searched-matrix-requires : tie.Need-searched-matrix-requires
 searched-matrix-requires c κs = search needs
 
 judge-requires : tie.Need-judge-requires
-judge-requires c κs = (search needs, search mirrored-by, length-replicate {A = Bool} 256 false)
+judge-requires c κs = (search needs, search symmetric-by, length-replicate {A = Bool} 256 false)
 
 list-marked-requires : tie.Need-list-marked-requires
 list-marked-requires c κs = search needs

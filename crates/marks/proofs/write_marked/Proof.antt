@@ -6,14 +6,15 @@ use denote.Ref.{now}
 use lib.ListN.{length}
 use Rattle.layout.specs.Content.{liveVertices}
 use Rattle.layout.specs.Layout.{limit, read}
-use Rattle.marks.specs.Marks.{isMarked, numberAt}
+use Rattle.lists.specs.Lists.{wordAt}
+use Rattle.marks.specs.Marks.{isMarked}
 use Rattle.marks.proofs.Marked.{Written, written-none, written-room, written-yes, written-no, written-end, number-live}
 use borrow.Author.Needs.{needs}
 use Rattle.marks.proofs.write_marked.Statement.{statement}
 use Rattle.marks.proofs.write_marked.Tie as tie
 
 abbrev Inv-loop : tie.InvT-loop
-Inv-loop t n marks out₀ c₀ k₀ out c k = (k ≤ n) × Written (isMarked marks) (numberAt (liveVertices (read limit t))) out₀ k c out
+Inv-loop t n marks out₀ c₀ k₀ out c k = (k ≤ n) × Written (isMarked marks) (wordAt (liveVertices (read limit t))) out₀ k c out
 
 abbrev μ-loop : tie.MeasureT-loop
 μ-loop t n marks out₀ c₀ k₀ out c k = n - k

@@ -7,13 +7,13 @@ use lib.ListN.{getD, take}
 use Rattle.graph.specs.Reach.{matrix}
 use Rattle.components.specs.Classes.{rootsOf}
 use Rattle.components.specs.Parts.{Parting}
-use Rattle.strong.specs.Strong.{mutual, latestFirst}
+use Rattle.strong.specs.Strong.{mutuallyReached, latestFirst}
 use Rattle.strong.proofs.Latest.{latest-first, latest-root, latest-room, latest-more, parting-free, latest-end}
 use Rattle.strong.proofs.part_strong.Statement.{statement}
 use Rattle.strong.proofs.part_strong.Tie as tie
 
 abbrev Inv-loop : tie.InvT-loop
-Inv-loop adj back n ids₀ order t c₀ k₀ ids c k = (k ≤ t) × Parting (mutual (matrix adj) n) n (rootsOf (mutual (matrix adj) n) (latestFirst (matrix adj) n)) (reverse (take k order)) ids c
+Inv-loop adj back n ids₀ order t c₀ k₀ ids c k = (k ≤ t) × Parting (mutuallyReached (matrix adj) n) n (rootsOf (mutuallyReached (matrix adj) n) (latestFirst (matrix adj) n)) (reverse (take k order)) ids c
 
 abbrev μ-loop : tie.MeasureT-loop
 μ-loop adj back n ids₀ order t c₀ k₀ ids c k = k

@@ -1,7 +1,7 @@
 -- `paths::words::put_two` meets its contract. Assumes nothing.
 use native.Mathlib.Omega.{arith}
 use lib.ListN.{length-set}
-use Rattle.paths.proofs.Writing.{two-words}
+use Rattle.lists.proofs.OverAt.{over-at-pair}
 use borrow.Author.Needs.{needs}
 use Rattle.paths.proofs.words.put_two.Statement.{statement}
 use Rattle.paths.proofs.words.put_two.Tie as tie
@@ -25,7 +25,7 @@ same-length : tie.Need-same-length
 same-length c = search needs
 
 returns : tie.Need-returns
-returns c = search two-words
+returns c = search over-at-pair
 
 pub put-two-spec : {M : Type 1} → statement M
 put-two-spec =

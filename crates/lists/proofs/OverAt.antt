@@ -6,13 +6,17 @@ use native.Mathlib.Numerals.{add-one}
 use native.Mathlib.Omega.{arith}
 use lib.ListN.{length, getD, set, take, drop, length-append, length-drop, take-append-drop, List·getD-append}
 use lib.Seq.{take-append-add, drop-append-add, getD-append-add, drop-drop, set-split, set-getD, length-take-le, getD-take, getD-drop}
-use Rattle.lists.specs.Lists.{over}
+use Rattle.lists.specs.Lists.{over, overAt}
 use Rattle.lists.proofs.Chosen.{over-none, over-part, over-length}
-use Rattle.edits.specs.Records.{overAt}
 
 pub over-at-none : (a : ℕ) (ws : List ℕ) → overAt a [] ws ≡ ws
 unfolding overAt
 over-at-none a ws = ap (λ (r : List ℕ). take a ws ++ r) (over-none (drop a ws)) ∙ take-append-drop a ws
+
+-- what stands before, the words, and what stands behind them
+pub over-at-split : (a : ℕ) (xs ws : List ℕ) → overAt a xs ws ≡ take a ws ++ (xs ++ drop (a + length xs) ws)
+unfolding overAt over
+over-at-split a xs ws = ap (λ (r : List ℕ). take a ws ++ (xs ++ r)) (drop-drop (length xs) a ws)
 
 -- one word
 pub set-over-at : (ws : List ℕ) (a x : ℕ) → a < length ws → set ws a x ≡ overAt a (x ∷ []) ws
@@ -67,11 +71,15 @@ module _ (a : ℕ) (xs ws : List ℕ) (h : a + length xs ≤ length ws) where
   pub over-at-more : (x : ℕ) → a + length xs < length ws → set (overAt a xs ws) (a + length xs) x ≡ overAt a (xs ++ (x ∷ [])) ws
   over-at-more x l = set-over-at (overAt a xs ws) (a + length xs) x (rw length-over-at l) ∙ over-at-join (x ∷ [])
 
+-- two words
+pub over-at-pair : (ws : List ℕ) (a x y : ℕ) → a + 2 ≤ length ws → set (set ws a x) (a + 1) y ≡ overAt a (x ∷ y ∷ []) ws
+over-at-pair ws a x y h =
+    ap (λ (l : List ℕ). set l (a + 1) y) (set-over-at ws a x (omega arith)) ∙ over-at-more a (x ∷ []) ws (omega arith) y (omega arith)
+
 -- two words, and more right behind them
 pub over-at-two : (ws : List ℕ) (a x w : ℕ) (ys : List ℕ) → a + 2 ≤ length ws → overAt (a + 2) ys (set (set ws a x) (a + 1) w) ≡ overAt a (x ∷ w ∷ ys) ws
 over-at-two ws a x w ys h =
-    ap (overAt (a + 2) ys) (ap (λ (l : List ℕ). set l (a + 1) w) (set-over-at ws a x (omega arith)) ∙ over-at-more a (x ∷ []) ws (omega arith) w (omega arith))
-    ∙ over-at-join a (x ∷ w ∷ []) ws h ys
+    ap (overAt (a + 2) ys) (over-at-pair ws a x w h) ∙ over-at-join a (x ∷ w ∷ []) ws h ys
 
 -- the two words before are as they were
 pub over-at-keep : (ws : List ℕ) (a : ℕ) (ys : List ℕ) → a + 2 ≤ length ws → overAt (a + 2) ys ws ≡ overAt a (getD ws a 0 ∷ getD ws (a + 1) 0 ∷ ys) ws
