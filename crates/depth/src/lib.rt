@@ -1,4 +1,4 @@
-// Depth first over a matrix of marks: the order in which numbers are finished, and the preorder from a startAt.
+// Depth first over a matrix of marks: the order in which numbers are finished, and the preorder from a start.
 ghost use mathlib.Core.Path.{_≡_};
 ghost use mathlib.Core.Bool.{not, _&&_};
 ghost use Prim.Native.Nat.{_+_, _-_, _<_, _≤_};
@@ -153,14 +153,14 @@ fn try_enter(
     enter(adj, n, j, marks, out, t)
 }
 
-// The listing of the numbers that are reached from `startAt`, depth first in preorder, smallest neighbour first.
-pub fn get_dfs(adj: &[u8; 65536], n: usize, startAt: usize, order: &mut [u32; 256]) -> usize
-    requires { ⌜ (n ≤ 256) × (startAt < n) ⌝ }
-    ensures { λ r. ⌜ (take r (now (order .exit)) ≡ preorder (matrix (now (adj .entry))) n startAt) × (r ≡ length (preorder (matrix (now (adj .entry))) n startAt)) ⌝ }
+// The listing of the numbers that are reached from `start`, depth first in preorder, smallest neighbour first.
+pub fn get_dfs(adj: &[u8; 65536], n: usize, start: usize, order: &mut [u32; 256]) -> usize
+    requires { ⌜ (n ≤ 256) × (start < n) ⌝ }
+    ensures { λ r. ⌜ (take r (now (order .exit)) ≡ preorder (matrix (now (adj .entry))) n start) × (r ≡ length (preorder (matrix (now (adj .entry))) n start)) ⌝ }
 {
     let mut marks = [0u8; 256];
     let mut out = [0u32; 256];
-    let r = enter(adj, n, startAt, &mut marks, &mut out, 0);
+    let r = enter(adj, n, start, &mut marks, &mut out, 0);
     *order = out;
     r
 }

@@ -1,4 +1,4 @@
--- The first isFree number, sought from the front: what is left of the search has the answer of the whole. Assumes nothing.
+-- The first free number, sought from the front: what is left of the search has the answer of the whole. Assumes nothing.
 use mathlib.Core.Path.{_≡_, refl, sym, ap, _∙_}
 use mathlib.Core.Bool.{Bool, true, false, not}
 use mathlib.Core.List.{List}
@@ -33,7 +33,7 @@ pub left-first : (d : List ℕ) (n : ℕ) → least (isFree d) n (n - n) ≡ lea
 left-first d n = let z : n - n ≡ 0 = omega arith in ap (least (isFree d) n) z
 
 module _ (d : List ℕ) (n k whole : ℕ) (le : k ≤ n) (h : least (isFree d) k (n - k) ≡ whole) where
-  -- a block in which none is isFree: r is what `none_free` found of it
+  -- a block in which none is free: r is what `none_free` found of it
   pub left-pass : (c : ℕ) (r : Bool) → c ≤ k → r ≡ every (busy d (n - k)) c → not r ≡ false → least (isFree d) (k - c) (n - (k - c)) ≡ whole
   left-pass c r l e q =
       let none : (i : ℕ) → i < c → isFree d (n - k + i) ≡ false = λ i li. not-true (isFree d (n - k + i)) (every-at (busy d (n - k)) c i (sym e ∙ not-false r q) li) in

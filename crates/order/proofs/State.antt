@@ -51,7 +51,7 @@ needs-none {E} {n} {d} h = record {
   is = λ v l. omega (arith, h .is v l, count-ext (λ u. E u v) (waits E [] v) n (λ u _. sym (and-true (E u v))));
 }
 
--- a number is isFree where its count is 0 and it is not placed
+-- a number is free where its count is 0 and it is not placed
 free-test : (x c : ℕ) (b : Bool) → x ≡ c + bit b * placedMark → eqb x 0 ≡ (not b && eqb c 0)
 free-test x c true e = ne-eqb x 0 (λ z. let y : _≡_ {A = ℕ} 0 1 = omega arith in no y)
   where

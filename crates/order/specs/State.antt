@@ -36,7 +36,7 @@ pub record Owed (E : ℕ → ℕ → Bool) (n v : ℕ) (d : List ℕ) : Type 0 w
 abbrev pub isFree : List ℕ → ℕ → Bool
 isFree d j = eqb (getD d j 0) 0
 
--- the number i places on from j is not isFree
+-- the number i places on from j is not free
 abbrev pub busy : List ℕ → ℕ → ℕ → Bool
 busy d j i = not (isFree d (j + i))
 

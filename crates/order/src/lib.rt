@@ -74,7 +74,7 @@ fn still(none: bool, d: u16) -> bool
     none
 }
 
-// Whether none of the numbers of the block from j on is isFree. None is skipped, so that the compiler can take several at a time.
+// Whether none of the numbers of the block from j on is free. None is skipped, so that the compiler can take several at a time.
 fn none_free(need: &[u16; 256], j: usize) -> bool
     requires { ⌜ j + 32 ≤ 256 ⌝ }
     ensures { λ r. ⌜ r ≡ every (busy (now (need .entry)) j) 32 ⌝ }
@@ -88,7 +88,7 @@ fn none_free(need: &[u16; 256], j: usize) -> bool
     none
 }
 
-// How many numbers are left from the first block on in which one is isFree.
+// How many numbers are left from the first block on in which one is free.
 fn left(n: usize, need: &[u16; 256]) -> usize
     requires { ⌜ n ≤ 256 ⌝ }
     ensures { λ r. ⌜ (r ≤ n) × (least (isFree (now (need .entry))) r (n - r) ≡ least (isFree (now (need .entry))) n 0) ⌝ }

@@ -32,11 +32,11 @@ pathHead cost count x = low cost ∷ high cost ∷ count ∷ x ∷ noNumber ∷ 
 abbrev pub stepWords : Table → ℕ → List ℕ → List ℕ
 stepWords t i l = entriesAfter t (numberOf t i) (map (numberOf t) l)
 
--- the mark of record v says that it is isReached
+-- the mark of record v says that it is reached
 abbrev pub isReached : List ℕ → ℕ → Bool
 isReached m v = eqb (getD m v 0) 2
 
--- the words of record v, where its mark says that it is isReached: its key has the cost above the low 16 bits
+-- the words of record v, where its mark says that it is reached: its key has the cost above the low 16 bits
 unfoldable pub keyWords : Table → List ℕ → List ℕ → ℕ → List ℕ
 keyWords t m d v = cond (isReached m v) (numberOf t v ∷ low (getD d v 0 / 65536) ∷ high (getD d v 0 / 65536) ∷ []) []
 

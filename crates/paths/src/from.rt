@@ -16,7 +16,7 @@ use crate::choices;
 use crate::words;
 use layout::Answer;
 
-// 1 for the mark of a record that is isReached, else 0.
+// 1 for the mark of a record that is reached, else 0.
 fn one_reached(mark: u8) -> usize
     ensures { λ r. ⌜ r ≡ bit (eqb mark 2) ⌝ }
 {
@@ -26,7 +26,7 @@ fn one_reached(mark: u8) -> usize
     0
 }
 
-// How many of the first n records are isReached.
+// How many of the first n records are reached.
 fn count_reached(n: usize, m: &[u8; 256]) -> usize
     requires { ⌜ n ≤ 256 ⌝ }
     ensures { λ r. ⌜ (r ≡ count (isReached (now (m .entry))) n) × (r ≤ n) ⌝ }
@@ -56,7 +56,7 @@ fn put_cost(t: &[u32], v: usize, key: u64, at: usize, out: &mut [u32])
     );
 }
 
-// The words of record v, where it is isReached, at place `at`; the place after them.
+// The words of record v, where it is reached, at place `at`; the place after them.
 fn put_record(
     t: &[u32],
     m: &[u8; 256],
@@ -76,7 +76,7 @@ fn put_record(
     at + 3
 }
 
-// Writes the words of the records that are isReached, ascending.
+// Writes the words of the records that are reached, ascending.
 fn put_costs(t: &[u32], n: usize, m: &[u8; 256], d: &[u64; 256], out: &mut [u32])
     requires { ⌜ Formed limit (now t) ⌝ }
     requires { ⌜ (n ≡ vertexCount (now t)) × (count (isReached (now m)) n * 3 ≤ length (now out)) ⌝ }

@@ -55,7 +55,7 @@ hasCount k e = eqb (length (e .members)) k
 unfoldable pub orphanHyperedges : Table → List ℕ
 orphanHyperedges t = map hyperedgeNumber (filter (hasCount 0) (t .hyperedges))
 
--- ---- uniform setSize
+-- ---- uniform size
 
 -- every hyperedge has k members; so it is with no hyperedges
 unfoldable pub uniform : ℕ → Table → Bool
@@ -111,25 +111,25 @@ inclusions t = flat (pairsOf t) (t .hyperedges)
 unfoldable pub isIncluded : Table → Hyperedge → Bool
 isIncluded t e = any (isWithin t e) (t .hyperedges)
 
--- a hyperedge of the setSize that is the first member of some pair
+-- a hyperedge of the size that is the first member of some pair
 unfoldable pub includedOfSize : Table → ℕ → Hyperedge → Bool
 includedOfSize t s e = hasSize t s e and isIncluded t e
 
--- how many hyperedges of the setSize are the first member of some pair, and how many there are
+-- how many hyperedges of the size are the first member of some pair, and how many there are
 unfoldable pub included : Table → ℕ → ℕ
 included t s = length (filter (includedOfSize t s) (t .hyperedges))
 
 unfoldable pub totalOf : Table → ℕ → ℕ
 totalOf t s = length (filter (hasSize t s) (t .hyperedges))
 
--- some hyperedge has the setSize
+-- some hyperedge has the size
 unfoldable pub isSize : Table → ℕ → Bool
 isSize t s = any (hasSize t s) (t .hyperedges)
 
--- setSize, included, totalOf
+-- size, included, total
 unfoldable pub row : Table → ℕ → List ℕ
 row t s = s ∷ included t s ∷ totalOf t s ∷ []
 
--- a row for each setSize that some hyperedge has, ascending; no setSize is above the number of vertices
+-- a row for each size that some hyperedge has, ascending; no size is above the number of vertices
 unfoldable pub nestedness : Table → List ℕ
 nestedness t = flat (row t) (chosen (isSize t) (suc (length (t .vertices))))

@@ -51,16 +51,16 @@ pub record Including (ws : List ℕ) (k : ℕ) (inc : List Bool) : Type 0 where
   pub sized : length inc ≡ vertexLimit
   pub each : (j : ℕ) → j < k → isMarked inc j ≡ isIncluded (read limit ws) (hyperedgeAt limit ws j)
 
--- sizes has the setSize of each hyperedge record, all marks every one, and inc those that are included
+-- sizes has the size of each hyperedge record, all marks every one, and inc those that are included
 pub record Classed (ws sizes : List ℕ) (all inc : List Bool) : Type 0 where
   pub counts : (j : ℕ) → j < hyperedgeCount ws → getD sizes j 0 ≡ setSize (read limit ws) (hyperedgeAt limit ws j)
   pub whole : (j : ℕ) → j < hyperedgeCount ws → isMarked all j ≡ true
   pub included : (j : ℕ) → j < hyperedgeCount ws → isMarked inc j ≡ isIncluded (read limit ws) (hyperedgeAt limit ws j)
 
--- record j is marked and has the setSize
+-- record j is marked and has the size
 unfoldable pub sizeAt : List ℕ → List Bool → ℕ → ℕ → Bool
 sizeAt sizes marks s j = eqb (getD sizes j 0) s and isMarked marks j
 
--- the row of a setSize, where some hyperedge has it
+-- the row of a size, where some hyperedge has it
 unfoldable pub rowIf : Table → ℕ → List ℕ
 rowIf t s = cond (isSize t s) (row t s) []

@@ -53,7 +53,7 @@ module _ (t : Table) where
   unfolding undirected
   link-together x y e = ⊎-elim (λ p. step-together t x y p) (λ p. together-swap t y x (step-together t y x p)) (or-true (hasStep t x y) (hasStep t y x) e)
 
-  -- two members of a list are undirected through its first
+  -- two members of a list are linked through its first
   members-linked : (ms : List ℕ) → ((x y : ℕ) → any (isStep x y) (stepsOf ms) ≡ true → UndirectedIn t x y) → (x y : ℕ) → memb x ms ≡ true → memb y ms ≡ true → Reach (UndirectedIn t) x y
   members-linked [] h x y p q = clash p refl
   members-linked (a ∷ ms) h x y p q = reach-trans (reach-swap link-swap (list-walk a ms h x p)) (list-walk a ms h y q)

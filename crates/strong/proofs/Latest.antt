@@ -48,7 +48,7 @@ memb-reverse v a e = go a [] (rw e refl)
     go [] y p = p
     go (i ∷ x) y p = go x (i ∷ y) (swap (eqb v i) (memb v x) (memb v y) p)
 
--- ---- while roots are tried, what is mutuallyReached with a number in no class is in no class
+-- ---- while roots are tried, what is mutually reached with a number in no class is in no class
 
 pub parting-free : (E : ℕ → ℕ → Bool) {n : ℕ} {whole rest ids : List ℕ} {c : ℕ} → Parting (mutuallyReached E n) n whole rest ids c → Unparted E n ids
 parting-free E {n} {whole} {rest} {ids} h x y lx ly e z =

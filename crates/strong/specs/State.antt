@@ -20,6 +20,6 @@ inside E p x y = E x y and p y
 abbrev pub Opened : ℕ → List ℕ → List ℕ → Type 0
 Opened n ids m = (v : ℕ) → v < n → getD m v 0 ≡ bit (eqb (getD ids v 0) 0)
 
--- what is mutuallyReached with a number in no class is in no class
+-- what is mutually reached with a number in no class is in no class
 abbrev pub Unparted : (ℕ → ℕ → Bool) → ℕ → List ℕ → Type 0
 Unparted E n ids = (a b : ℕ) → a < n → b < n → mutuallyReached E n a b ≡ true → getD ids a 0 ≡ 0 → getD ids b 0 ≡ 0

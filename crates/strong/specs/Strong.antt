@@ -14,6 +14,6 @@ mutuallyReached E n x y = reached E n x y and reached E n y x
 unfoldable pub latestFirst : (ℕ → ℕ → Bool) → ℕ → List ℕ
 latestFirst E n = reverse (finished E n)
 
--- the strong components: the classes of mutuallyReached reachability, by the latest finished root
+-- the strong components: the classes of mutual reachability, by the latest finished root
 abbrev pub strong : (ℕ → ℕ → Bool) → ℕ → List (List ℕ)
 strong E n = classes (mutuallyReached E n) n (latestFirst E n)

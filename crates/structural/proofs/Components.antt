@@ -123,7 +123,7 @@ module _ {ws : List ℕ} (f : Formed limit ws) where
 
   -- ---- theorems
 
-  -- two vertices are in one connected component exactly where they are undirected
+  -- two vertices are in one connected component exactly where they are linked
   pub connected-components : Components (Linked (read limit ws)) (liveVertices (read limit ws)) (connectedComponents (read limit ws))
   unfolding connectedComponents classes
   connected-components =
@@ -142,7 +142,7 @@ module _ {ws : List ℕ} (f : Formed limit ws) where
       (λ i j li lj e. record { forth = steps-there i j li (shared-forth E n i j e); back = steps-there j i lj (shared-back E n i j e) })
       (λ i j li lj m. shared-both E n i j (steps-back i j li lj (m .forth)) (steps-back j i lj li (m .back))))
 
-  -- connected: all live vertices are undirected
+  -- connected: all live vertices are linked
   pub connected-linked : connected (read limit ws) ≡ true → (x y : ℕ) → isLive (liveVertices (read limit ws)) x ≡ true → isLive (liveVertices (read limit ws)) y ≡ true → Linked (read limit ws) x y
   unfolding connected
   connected-linked e x y lx ly =
