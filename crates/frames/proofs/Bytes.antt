@@ -12,7 +12,7 @@ use lib.ListN.{length, getD, set, take, drop, length-set}
 use lib.Seq.{getD-set-same, getD-set-other, paste, paste-suc, take-length}
 use borrow.Author.Tests.{eqb-true}
 use Rattle.lists.specs.Tests.{_and_, every}
-use Rattle.lists.specs.Lists.{flat, sum}
+use Rattle.lists.specs.Lists.{flat, sumOver}
 use Rattle.lists.proofs.Every.{every-at}
 use Rattle.lists.proofs.OverAt.{over-at-split, over-at-pair}
 use Rattle.frames.specs.Frames.{byteValues, byteOf, numberBytes, shortBytes, byteSum, balance, digit, byteDigits, digits, numberDigits, lineFeed}
@@ -110,12 +110,12 @@ unfolding numberDigits digits flat numberBytes byteDigits
 number-put x w i f g h k = put-as refl (rw i) (put-append f (put-append g (put-append h k)))
 
 pub short-sum-is : (x a b : ℕ) → a ≡ byteOf x byteValues → b ≡ byteOf x 1 → (a + b ≡ byteSum (shortBytes x)) × (a + b ≤ 510)
-unfolding sum shortBytes
+unfolding sumOver shortBytes
 short-sum-is x a b p q = (omega arith, omega arith)
 
 pub number-sum-is : (x w a b c d : ℕ) → w ≡ x → a ≡ byteOf w 16777216 → b ≡ byteOf w 65536 → c ≡ byteOf w byteValues → d ≡ byteOf w 1
     → (a + b + c + d ≡ byteSum (numberBytes x)) × (a + b + c + d ≤ 1020)
-unfolding sum numberBytes
+unfolding sumOver numberBytes
 number-sum-is x w a b c d e p q r s = (rw (p, q, r, s, e) (omega arith), omega arith)
 
 -- ---- the last byte of a frame, and the line feed; b is what `balance` made of the sum

@@ -4,7 +4,7 @@ use mathlib.Core.List.{List, [], _∷_, _++_}
 use Prim.Native.Nat.{ℕ}
 use lib.ListN.{take}
 use Rattle.layout.specs.Content.{Table}
-use Rattle.lists.specs.Lists.{flat, sum}
+use Rattle.lists.specs.Lists.{flat, sumOver}
 use Rattle.frames.specs.Frames.{numberBytes, shortBytes, headFrame, vertexFrame, hyperedgeFrame, balance, check, sealed, digit, byteDigits, digits, line, headLine, vertexLine, hyperedgeLine, frameText}
 use Rattle.frames.proofs.Lines.{opening}
 
@@ -39,5 +39,5 @@ abbrev line4 : List ℕ
 line4 = 48 ∷ 50 ∷ 48 ∷ 48 ∷ 48 ∷ 48 ∷ 48 ∷ 48 ∷ 48 ∷ 48 ∷ 48 ∷ 48 ∷ 48 ∷ 48 ∷ 48 ∷ 48 ∷ 48 ∷ 53 ∷ 48 ∷ 50 ∷ 48 ∷ 48 ∷ 48 ∷ 48 ∷ 48 ∷ 48 ∷ 48 ∷ 48 ∷ 48 ∷ 48 ∷ 48 ∷ 48 ∷ 48 ∷ 48 ∷ 48 ∷ 49 ∷ 70 ∷ 54 ∷ 10 ∷ []
 
 pub example-text : frameText content ≡ line1 ++ (line2 ++ (line3 ++ line4))
-unfolding flat numberBytes shortBytes headFrame vertexFrame hyperedgeFrame sum balance check sealed digit byteDigits digits line headLine vertexLine hyperedgeLine frameText
+unfolding flat numberBytes shortBytes headFrame vertexFrame hyperedgeFrame sumOver balance check sealed digit byteDigits digits line headLine vertexLine hyperedgeLine frameText
 example-text = refl

@@ -6,7 +6,7 @@ use native.Mathlib.Numerals.{add-one}
 use native.Mathlib.Omega.{arith}
 use lib.ListN.{length, getD, take}
 use lib.Seq.{take-suc, take-all}
-use Rattle.lists.specs.Lists.{flat, sum}
+use Rattle.lists.specs.Lists.{flat, sumOver}
 use Rattle.lists.proofs.Flat.{flat-append, flat-snoc}
 use Rattle.lists.proofs.OverAt.{over-at-none}
 use Rattle.layout.specs.Content.{vertexOf, hyperedgeOf}
@@ -15,13 +15,13 @@ use Rattle.frames.specs.Put.{Put}
 use Rattle.frames.proofs.Laws.{put-append, put-as}
 
 pub sum-append : (xs ys : List ℕ) → byteSum (xs ++ ys) ≡ byteSum xs + byteSum ys
-unfolding sum
+unfolding sumOver
 sum-append [] ys = omega arith
 sum-append (x ∷ xs) ys = omega (arith, sum-append xs ys)
 
 -- the last byte of a frame makes its byte sum 0 modulo 256
 pub sealed-sum : (frame : List ℕ) → byteSum (sealed frame) % byteValues ≡ 0
-unfolding sealed check balance sum
+unfolding sealed check balance sumOver
 sealed-sum frame = rw sum-append (one (byteSum frame))
   where
     one : (s : ℕ) → (s + byteSum ((byteValues - s % byteValues) % byteValues ∷ [])) % byteValues ≡ 0
@@ -48,7 +48,7 @@ head-is x y n m = refl
 
 head-sum : (x y n m : ℕ) {a b c d : ℕ} → a ≡ byteSum (numberBytes x) → b ≡ byteSum (numberBytes y) → c ≡ byteSum (shortBytes n) → d ≡ byteSum (shortBytes m)
     → 72 + 71 + 49 + (a + b) + (c + d) ≡ byteSum (headFrame x y n m)
-unfolding headFrame sum
+unfolding headFrame sumOver
 head-sum x y n m e f g h = simp sum-append (omega arith)
 
 pub head-put : (x y n m : ℕ) {p q r s u v i j k l : ℕ} {a b c d e f g : List ℕ}
@@ -74,7 +74,7 @@ unfolding vertexFrame numberDigits digits flat numberBytes byteDigits
 vertex-is x w = refl
 
 vertex-sum : (x w : ℕ) {a b : ℕ} → a ≡ byteSum (numberBytes x) → b ≡ byteSum (numberBytes w) → 1 + a + b ≡ byteSum (vertexFrame (vertexOf x w))
-unfolding vertexFrame sum
+unfolding vertexFrame sumOver
 vertex-sum x w e f = simp sum-append (omega arith)
 
 pub vertex-put : (x w : ℕ) {at p q i j : ℕ} {a b c : List ℕ}
@@ -105,7 +105,7 @@ module _ (ms : List ℕ) where
   members-end {i = i} h l f = put-as (omega arith) (ap (flat numberDigits) (take-all i ms l)) f
 
   pub sum-none : 0 ≡ byteSum (flat numberBytes (take 0 ms))
-  unfolding sum flat
+  unfolding sumOver flat
   sum-none = refl
 
   pub sum-more : {i sum x : ℕ} → i < length ms → sum ≡ byteSum (flat numberBytes (take i ms)) → x ≡ byteSum (numberBytes (getD ms i 0))
@@ -132,7 +132,7 @@ module _ (x w : ℕ) (ms : List ℕ) where
 
   pub hyperedge-sum : {a b c : ℕ} → a ≡ byteSum (numberBytes x) → b ≡ byteSum (numberBytes w) → c ≡ byteSum (flat numberBytes ms)
       → 2 + (a + b) + length ms + c ≡ byteSum (hyperedgeFrame (hyperedgeOf x w ms))
-  unfolding hyperedgeFrame sum
+  unfolding hyperedgeFrame sumOver
   hyperedge-sum e f g = simp sum-append (omega arith)
 
   pub hyperedge-put : {at p q r s sum : ℕ} {a b c d e : List ℕ}

@@ -12,7 +12,7 @@ use lib.ListN.{length, getD, take, drop, length-append, length-drop, take-append
 use lib.Seq.{drop-cons, drop-drop, take-at, getD-drop}
 use borrow.Author.Tests.{ltb-true, lt-ltb, le-ltb, eqb-true, eq-eqb}
 use Rattle.lists.specs.Tests.{_and_, every}
-use Rattle.lists.specs.Lists.{all, isBelow, sameList, tab, flat, sum}
+use Rattle.lists.specs.Lists.{all, isBelow, sameList, tab, flat, sumOver}
 use Rattle.lists.proofs.Cases.{on-below, clash, and-left, and-right, and-both}
 use Rattle.lists.proofs.Every.{every-at}
 use Rattle.lists.proofs.Tab.{tab-ext}
@@ -252,7 +252,7 @@ module _ (text : List ℕ) (p : ℕ) (xs : List ℕ) where
 
 -- the last byte is the one that makes the sum 0
 check-is : (fr : List ℕ) (c : ℕ) → c < byteValues → byteSum (fr ++ (c ∷ [])) % byteValues ≡ 0 → c ≡ check fr
-unfolding check balance sum
+unfolding check balance sumOver
 check-is fr c h e = one (byteSum fr) (rw sum-append at e)
   where
     one : (s : ℕ) → (s + (c + 0)) % byteValues ≡ 0 → c ≡ (byteValues - s % byteValues) % byteValues

@@ -4,7 +4,7 @@ use mathlib.Core.List.{List, [], _∷_, _++_}
 use Prim.Native.Nat.{ℕ, _+_, _-_, _*_, _/_, _%_}
 use lib.Dec.{ltb}
 use lib.ListN.{length}
-use Rattle.lists.specs.Lists.{itself, sum, flat}
+use Rattle.lists.specs.Lists.{itself, sumOver, flat}
 use Rattle.layout.specs.Content.{Vertex, Hyperedge, Table}
 use Rattle.layout.specs.Answers.{Result, listed}
 
@@ -44,7 +44,7 @@ hyperedgeFrame e =
 
 -- the byte sum
 abbrev pub byteSum : List ℕ → ℕ
-byteSum bs = sum itself bs
+byteSum bs = sumOver itself bs
 
 -- the byte that makes a byte sum 0 modulo 256
 unfoldable pub balance : ℕ → ℕ

@@ -64,9 +64,9 @@ abbrev pub wordAt : List ℕ → ℕ → ℕ
 wordAt xs i = getD xs i 0
 
 -- what f gives, summed over a list
-unfoldable pub sum : {A : Type 0} → (A → ℕ) → List A → ℕ
-sum f [] = 0
-sum f (x ∷ xs) = f x + sum f xs
+unfoldable pub sumOver : {A : Type 0} → (A → ℕ) → List A → ℕ
+sumOver f [] = 0
+sumOver f (x ∷ xs) = f x + sumOver f xs
 
 -- strictly ascending: each is below all that come after it
 unfoldable pub ascending : List ℕ → Bool

@@ -11,7 +11,7 @@ use lib.Dec.{eqb}
 use lib.ListN.{length, getD, take, drop, set, replicate, length-set, length-append, length-replicate, List·getD-append}
 use lib.Seq.{take-suc, take-length, drop-drop, getD-drop, getD-append-add, getD-set-same, getD-set-other, ext-getD}
 use borrow.Author.Tests.{eq-eqb, ne-eqb, eqb-true}
-use Rattle.lists.specs.Lists.{any, filter, flat, over, Ascending, sum}
+use Rattle.lists.specs.Lists.{any, filter, flat, over, Ascending, sumOver}
 use Rattle.lists.proofs.Cases.{on, on-same, on-below}
 use Rattle.lists.proofs.Flat.{flat-snoc}
 use Rattle.lists.proofs.Chosen.{over-length}
@@ -241,19 +241,19 @@ module _ (count : ℕ) where
   words-le : wordsFor count ≤ count + 2
   words-le = on-same count 0 (λ e. omega (arith, words-none e)) (λ n. omega (arith, words-some n))
 
-sum-snoc : {A : Type 0} (f : A → ℕ) (xs : List A) (x : A) → sum f (xs ++ (x ∷ [])) ≡ sum f xs + f x
-unfolding sum
+sum-snoc : {A : Type 0} (f : A → ℕ) (xs : List A) (x : A) → sumOver f (xs ++ (x ∷ [])) ≡ sumOver f xs + f x
+unfolding sumOver
 sum-snoc f [] x = omega arith
 sum-snoc f (y ∷ ys) x = omega (arith, sum-snoc f ys x)
 
 module _ (counts : List ℕ) where
   pub start-none : 0 ≡ start counts 0
-  unfolding start sum
+  unfolding start sumOver
   start-none = refl
 
   pub start-suc : (k : ℕ) → k < length counts → start counts (suc k) ≡ start counts k + wordsFor (getD counts k 0)
   unfolding start
-  start-suc k h = ap (sum wordsFor) (take-suc counts k 0 h) ∙ sum-snoc wordsFor (take k counts) (getD counts k 0)
+  start-suc k h = ap (sumOver wordsFor) (take-suc counts k 0 h) ∙ sum-snoc wordsFor (take k counts) (getD counts k 0)
 
   start-upto : (n k : ℕ) → k ≤ n → n ≤ length counts → start counts k ≤ start counts n
   start-upto zero k l m = let e : k ≡ 0 = omega arith in omega (arith, ap (start counts) e)
@@ -273,7 +273,7 @@ module _ (counts : List ℕ) where
   start-within n k h l = omega (arith, start-suc k (omega arith), start-upto n (suc k) h l)
 
   pub start-most : (most n : ℕ) → n ≤ length counts → ((k : ℕ) → k < n → getD counts k 0 ≤ most) → (k : ℕ) → k ≤ n → start counts k ≤ k * (most + 2)
-  unfolding start sum
+  unfolding start sumOver
   start-most most n l b zero h = omega arith
   start-most most n l b (suc k) h = omega (arith, start-suc k (omega arith), start-most most n l b k (omega arith), words-le (getD counts k 0), b k (omega arith))
 
@@ -390,7 +390,7 @@ module _ {live : List ℕ} {whole : ℕ → List ℕ} {counts : List ℕ} (t : T
   count-is k h = omega (arith, t .each k h)
 
   pub start-is : (k : ℕ) → k ≤ length live → start counts k ≡ offset live whole k
-  unfolding start sum offset flat
+  unfolding start sumOver offset flat
   start-is zero h = refl
   start-is (suc k) h =
       omega (arith, start-is k (omega arith), start-suc counts k (omega (arith, t .sized)), offset-suc live whole k h, full-length whole (getD live k 0), ap wordsFor (count-is k h))

@@ -11,7 +11,7 @@ use lib.ListN.{length, getD, take, drop, set, replicate, length-set, length-appe
 use lib.Seq.{drop-cons, take-suc, take-all, length-take-le}
 use borrow.Author.Tests.{eq-eqb, ne-eqb, not-true, not-false}
 use Rattle.lists.specs.Tests.{_and_}
-use Rattle.lists.specs.Lists.{over, memb, flat, tab, sum}
+use Rattle.lists.specs.Lists.{over, memb, flat, tab, sumOver}
 use Rattle.lists.proofs.Cases.{on, on-same}
 use Rattle.lists.proofs.Stride.{stride}
 use Rattle.lists.proofs.Parts.{part-count, part-tail, back-tail}
@@ -173,8 +173,8 @@ block-most L ws j (Connecting x y) f h =
 block-most L ws j (Weighing w) f h = on (eqb (hyperedgeAt L ws j .weight) w) (λ e. rw e (omega arith)) (λ e. rw e (omega arith))
 block-most L ws j (Holding v) f h = on (memb v (membersAt L ws j)) (λ e. rw e (omega (arith, members-le L ws f j h))) (λ e. rw e (omega arith))
 
-pub blocks-length : (q : Listing) (es : List Hyperedge) → sum (blockLength q) es ≡ length (flat (block q) es)
-unfolding sum flat blockLength
+pub blocks-length : (q : Listing) (es : List Hyperedge) → sumOver (blockLength q) es ≡ length (flat (block q) es)
+unfolding sumOver flat blockLength
 blocks-length q [] = refl
 blocks-length q (e ∷ es) = ap (λ (n : ℕ). length (block q e) + n) (blocks-length q es) ∙ sym (length-append (block q e) (flat (block q) es))
 

@@ -10,7 +10,7 @@ use lib.ListN.{length, getD, drop, drop-of-length-le}
 use lib.Seq.{drop-cons}
 use borrow.Author.Tests.{eq-eqb, ne-eqb}
 use Rattle.lists.specs.Tests.{bit}
-use Rattle.lists.specs.Lists.{filter, tab, sum}
+use Rattle.lists.specs.Lists.{filter, tab, sumOver}
 use Rattle.lists.proofs.Kept.{filter-length}
 use Rattle.lists.proofs.Tab.{drop-tab, length-tab}
 use Rattle.layout.specs.Steps.{Step, stepsOf}
@@ -109,22 +109,22 @@ module _ (L : ℕ) (ws : List ℕ) {m j : ℕ} (e : m ≡ hyperedgeCount ws) whe
 
 pub record Summed {A : Type 0} (f : A → ℕ) (g : ℕ → A) (m most j n : ℕ) : Type 0 where
   pub within : n ≤ j * most
-  pub left : n + sum f (drop j (tab g m)) ≡ sum f (tab g m)
+  pub left : n + sumOver f (drop j (tab g m)) ≡ sumOver f (tab g m)
 
 pub summed-none : {A : Type 0} (f : A → ℕ) (g : ℕ → A) (m most : ℕ) → Summed f g m most 0 0
 summed-none f g m most = record { within = omega arith; left = omega arith }
 
 module _ {A : Type 0} {f : A → ℕ} {g : ℕ → A} {m most j n : ℕ} (s : Summed f g m most j n) where
   pub summed-more : {x more : ℕ} → j < m → x ≡ f (g j) → x ≤ most → more ≡ n + x → Summed f g m most (j + 1) more
-  unfolding sum
+  unfolding sumOver
   summed-more h e l q = record {
     within = omega (arith, s .within);
-    left = omega (arith, s .left, ap (sum f) (drop-tab g m j h));
+    left = omega (arith, s .left, ap (sumOver f) (drop-tab g m j h));
   }
 
-  pub summed-end : m ≤ j → n ≡ sum f (tab g m)
-  unfolding sum
-  summed-end h = omega (arith, s .left, ap (sum f) (records-end g m j h))
+  pub summed-end : m ≤ j → n ≡ sumOver f (tab g m)
+  unfolding sumOver
+  summed-end h = omega (arith, s .left, ap (sumOver f) (records-end g m j h))
 
 -- x is what a count of the places of record j's members found
 module _ (L : ℕ) (ws ms : List ℕ) (j : ℕ) (e : ms ≡ membersAt L ws j) (p : Step → Bool) (x : ℕ) (q : x ≡ places p ms) where

@@ -5,7 +5,7 @@ use Prim.Native.Nat.{ℕ, _+_}
 use lib.Dec.{eqb}
 use lib.ListN.{length, getD, replicate}
 use Rattle.lists.specs.Tests.{_and_}
-use Rattle.lists.specs.Lists.{all, any, memb, filter, facing, sum, flat, counted}
+use Rattle.lists.specs.Lists.{all, any, memb, filter, facing, sumOver, flat, counted}
 use Rattle.layout.specs.Content.{Vertex, Hyperedge, Table, liveVertices, vertexNumber, lists}
 use Rattle.layout.specs.Steps.{Step, stepsOf, isStep, makesStep}
 use Rattle.lookups.specs.declared.Relation.{Relation}
@@ -76,7 +76,7 @@ placesIn p e = places p (e .members)
 
 -- degrees count every place
 unfoldable pub degree : Bool → ℕ → Table → ℕ
-degree arriving v t = sum (placesIn (hasEnd arriving v)) (t .hyperedges)
+degree arriving v t = sumOver (placesIn (hasEnd arriving v)) (t .hyperedges)
 
 -- ---- listings of hyperedges
 

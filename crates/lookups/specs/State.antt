@@ -6,7 +6,7 @@ use Prim.Native.Nat.{ℕ, suc, _+_, _*_, _-_, _≤_, _<_}
 use lib.Dec.{eqb}
 use lib.ListN.{length, getD, take, drop, set, replicate}
 use Rattle.lists.specs.Tests.{_and_}
-use Rattle.lists.specs.Lists.{any, flat, facing, sum}
+use Rattle.lists.specs.Lists.{any, flat, facing, sumOver}
 use Rattle.layout.specs.declared.Found.{Found}
 use Rattle.layout.specs.declared.Found.the-variants.{At, Nothing}
 use Rattle.layout.specs.Content.{Table}
@@ -86,7 +86,7 @@ headFor count = cond (eqb count 0) 0 2
 
 -- where the words of the vertex in record k start, by the counts
 unfoldable pub start : List ℕ → ℕ → ℕ
-start counts k = sum wordsFor (take k counts)
+start counts k = sumOver wordsFor (take k counts)
 
 -- vertex and count, written at c
 unfoldable pub heading : ℕ → ℕ → ℕ → List ℕ → List ℕ

@@ -38,7 +38,7 @@ use Rattle.paths.proofs.Values.{value-at}
 -- what follows words that were written
 pub laid-on : (w xs d out : List ℕ) (at : ℕ) → out ≡ over w d → length w ≡ at → overAt at xs out ≡ over (w ++ xs) d
 unfolding overAt
-laid-on w xs d out at e h = rw e (over-part w xs d at (sym h))
+laid-on w xs d out at e h = rw e (over-part w xs d at h)
 
 pub three-words : (out : List ℕ) (at a b c : ℕ) → at + 3 ≤ length out → set (set (set out at a) (at + 1) b) (at + 2) c ≡ overAt at (a ∷ b ∷ c ∷ []) out
 three-words out at a b c l =

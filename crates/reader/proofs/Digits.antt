@@ -11,7 +11,7 @@ use lib.Dec.{ltb}
 use lib.ListN.{length, getD, set, take, drop, replicate, length-set, length-replicate, length-drop, List·getD-append}
 use lib.Seq.{getD-set-same, getD-set-other, getD-take, getD-drop, length-take-le, ext-getD}
 use borrow.Author.Tests.{ltb-true, lt-ltb, le-ltb}
-use Rattle.lists.specs.Lists.{all, isBelow, sameList, sum}
+use Rattle.lists.specs.Lists.{all, isBelow, sameList, sumOver}
 use Rattle.lists.proofs.Cases.{on, on-same, on-below, and-both}
 use Rattle.lists.proofs.All.{all-at, all-snoc}
 use Rattle.frames.specs.Frames.{byteValues, byteSum, digit}
@@ -100,11 +100,11 @@ pub record Summed (text : List ℕ) (p i sum : ℕ) : Type 0 where
 
 module _ (text : List ℕ) (p : ℕ) where
   pub summed-none : Summed text p 0 0
-  unfolding bytesAt all sum
+  unfolding bytesAt all sumOver
   summed-none = record { low = refl; is = refl; small = omega arith }
 
   pub summed-more : (i sum b : ℕ) → Summed text p i sum → b ≡ byteAt text (p + i * 2) → b < 256 → Summed text p (i + 1) (sum + b)
-  unfolding sum
+  unfolding sumOver
   summed-more i sum b s e h =
       let q : bytesAt text p (i + 1) ≡ bytesAt text p i ++ (b ∷ []) = ap (bytesAt text p) (add-one i) ∙ bytes-snoc text p i ∙ ap (λ (x : ℕ). bytesAt text p i ++ (x ∷ [])) (sym e) in
       record {

@@ -3,7 +3,7 @@ use mathlib.Core.Path.{_≡_, refl}
 use mathlib.Core.List.{[], _∷_}
 use lib.Ieee.{span, climb, size, odd, units, round, mul, div, lt, ofInt}
 use Rattle.layout.specs.Content.{Table, hyperedgesOf}
-use Rattle.lists.specs.Lists.{filter, sum}
+use Rattle.lists.specs.Lists.{filter, sumOver}
 use Rattle.lists.specs.Tests.{chosen}
 use Rattle.walk.specs.Walk.{xorshift, sample, lastOf, firstGreater, isFirstOther, otherMembers, toOneOf, moveAlong, move, walkFrom, cut, firstState, walk}
 
@@ -26,11 +26,11 @@ draw-first = refl
 
 -- no running sum is greater: the last
 walk-else-last : walk forked 0 1 7650297886450228676 ≡ 0 ∷ 2 ∷ []
-unfolding walk walkFrom move moveAlong hyperedgesOf filter cut firstState toOneOf otherMembers isFirstOther chosen firstGreater lastOf sum sample xorshift ofInt div mul lt round units odd span climb size
+unfolding walk walkFrom move moveAlong hyperedgesOf filter cut firstState toOneOf otherMembers isFirstOther chosen firstGreater lastOf sumOver sample xorshift ofInt div mul lt round units odd span climb size
 walk-else-last = refl
 
 walk-first-greater : walk forked 0 1 18097393005032713128 ≡ 0 ∷ 1 ∷ []
-unfolding walk walkFrom move moveAlong hyperedgesOf filter cut firstState toOneOf otherMembers isFirstOther chosen firstGreater lastOf sum sample xorshift ofInt div mul lt round units odd span climb size
+unfolding walk walkFrom move moveAlong hyperedgesOf filter cut firstState toOneOf otherMembers isFirstOther chosen firstGreater lastOf sumOver sample xorshift ofInt div mul lt round units odd span climb size
 walk-first-greater = refl
 
 -- h0 [0, 1] and h1 [0, 2], both of weight 1
@@ -43,5 +43,5 @@ even = record {
 }
 
 walk-of-three : walk even 0 3 1 ≡ 0 ∷ 1 ∷ 0 ∷ 2 ∷ []
-unfolding walk walkFrom move moveAlong hyperedgesOf filter cut firstState toOneOf otherMembers isFirstOther chosen firstGreater lastOf sum sample xorshift ofInt div mul lt round units odd span climb size
+unfolding walk walkFrom move moveAlong hyperedgesOf filter cut firstState toOneOf otherMembers isFirstOther chosen firstGreater lastOf sumOver sample xorshift ofInt div mul lt round units odd span climb size
 walk-of-three = refl

@@ -9,7 +9,7 @@ use native.Mathlib.Omega.{arith}
 use lib.Ieee.{Float, lt}
 use lib.ListN.{length, getD, drop, drop-of-length-le}
 use lib.Seq.{drop-cons}
-use Rattle.lists.specs.Lists.{filter, tab, sum}
+use Rattle.lists.specs.Lists.{filter, tab, sumOver}
 use Rattle.lists.proofs.Cases.{on}
 use Rattle.lists.proofs.Maps.{map-snoc}
 use Rattle.lists.proofs.Tab.{tab-suc}
@@ -68,7 +68,7 @@ summed-none ws js h = record { few = h; within = omega arith; small = omega arit
 module _ (ws js : List ℕ) (total k n : ℕ) (inv : Summed ws js total k) (en : n ≡ length js) where
   -- record j is the k-th, and x its weight
   pub summed-more : k < n → (j y x : ℕ) → j ≡ getD js k 0 → y ≡ hyperedgeAt limit ws j .weight → x ≡ y → x ≤ largestWord → Summed ws js (total + x) (k + 1)
-  unfolding sum
+  unfolding sumOver
   summed-more h j y x ej ey ex l = record {
     few = inv .few;
     within = omega arith;
@@ -77,7 +77,7 @@ module _ (ws js : List ℕ) (total k n : ℕ) (inv : Summed ws js total k) (en :
   }
 
   pub summed-end : n ≤ k → total ≡ totalWeight (recordsAt ws js)
-  unfolding sum
+  unfolding sumOver
   summed-end h = sym (add-zero total) ∙ (rw (drop-of-length-le js {i = k} (rw en at h)) at (inv .ahead))
 
 -- ---- the loop that looks for the first whose running sum is greater: sum is the running sum of the first k

@@ -11,7 +11,7 @@ use lib.Ieee.Fits.{down-pos}
 use lib.Ieee.Exact.{HasValue}
 use lib.Ieee.Back.{round-whole}
 use lib.Ieee.Scale.{round-same}
-use Rattle.lists.specs.Lists.{sum}
+use Rattle.lists.specs.Lists.{sumOver}
 use Rattle.lists.proofs.Cases.{clash}
 use Rattle.layout.specs.Content.{Hyperedge}
 use Rattle.walk.specs.Walk.{float, totalWeight}
@@ -49,7 +49,7 @@ floatSum s [] = s
 floatSum s (e ∷ es) = floatSum (add binary64 s (float (e .weight))) es
 
 pub float-sums-are-whole : (s : ℕ) (es : List Hyperedge) → s + totalWeight es ≤ 2 ^ 53 → floatSum (float s) es ≡ float (s + totalWeight es)
-unfolding floatSum sum
+unfolding floatSum sumOver
 float-sums-are-whole s [] h = ap float (sym (add-zero s))
 float-sums-are-whole s (e ∷ es) h =
     let more : s + e .weight + totalWeight es ≡ s + (e .weight + totalWeight es) = add-assoc s (e .weight) (totalWeight es) in

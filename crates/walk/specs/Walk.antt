@@ -8,7 +8,7 @@ use lib.IntN.{pos}
 use lib.Ieee.{Float, fin, binary64, ofInt, div, mul, lt}
 use lib.ListN.{length, getD, take}
 use Rattle.lists.specs.Tests.{chosen}
-use Rattle.lists.specs.Lists.{memb, wordAt, sum}
+use Rattle.lists.specs.Lists.{memb, wordAt, sumOver}
 use Rattle.layout.specs.Content.{Hyperedge, Table, hyperedgeWeight, hyperedgesOf}
 use Rattle.layout.specs.Answers.{Result, onLiveVertex, listed}
 use Rattle.walk.specs.declared.Walker.{Walker}
@@ -43,7 +43,7 @@ sample draw total = mul binary64 (div binary64 (float draw) two64) (float total)
 
 -- the total weight
 abbrev pub totalWeight : List Hyperedge → ℕ
-totalWeight es = sum hyperedgeWeight es
+totalWeight es = sumOver hyperedgeWeight es
 
 -- the last of e and es
 unfoldable pub lastOf : Hyperedge → List Hyperedge → Hyperedge

@@ -61,7 +61,7 @@ add-at c =
       arith,
       blocks-room (l .loop .inv .1) (s .args .c) (s .pre .1 .1) (c .before .before .before .before .loop-test .taken),
       long (c .before .before .before .before),
-      class-as (numberOf (read limit (s .args .t .now))) (s .args .ids .now) (s .args .n) (l .loop .k) (c .before .before .write-class .ensures) .ends,
+      class-as (numberOf (read limit (s .args .t .now))) (s .args .ids .now) (s .args .n) (l .loop .k) (c .before .before .write-class .ensures) .words,
       s .good,
     )
 
