@@ -10,14 +10,13 @@ use lib.Dec.{eqb}
 use lib.ListN.{length, set, length-append, length-set}
 use borrow.Author.Tests.{eq-eqb, ne-eqb}
 use Rattle.lists.specs.Tests.{_and_, count, chosen}
-use Rattle.lists.specs.Lists.{flat, over, upTo}
+use Rattle.lists.specs.Lists.{flat, over, upTo, Wrote}
 use Rattle.lists.proofs.Chosen.{chosen-none, chosen-in, chosen-out, chosen-count, chosen-ext, over-none, over-more}
 use Rattle.lists.proofs.Count.{count-below}
 use Rattle.lists.proofs.Flat.{flat-snoc}
 use Rattle.layout.specs.declared.Answer.the-variants.{Done, NoRoom}
 use Rattle.layout.specs.Answers.{result, listed}
 use Rattle.layout.proofs.Answers.{listed-over, listed-fits}
-use Rattle.components.specs.Parts.{Written}
 use Rattle.components.proofs.Blocks.{blocks-suc, blocks-ext}
 use Rattle.closure.specs.Pairs.{apart, secondsOf, pairWords, rowWords, pairsWords}
 use Rattle.closure.specs.State.{pairsBelow}
@@ -103,13 +102,13 @@ module _ {f : ℕ → ℕ} {p : ℕ → Bool} {x : ℕ} {d₀ : List ℕ} {y i :
     same = rw ed (w .same);
   }
 
-pub row-end : {f : ℕ → ℕ} (E : ℕ → ℕ → Bool) {x : ℕ} {d₀ : List ℕ} {y i : ℕ} {d : List ℕ} (n : ℕ) → Row f (apart E x) x d₀ y i d → y ≤ n → n ≤ y → Written (rowWords f E n x) d₀ d i
+pub row-end : {f : ℕ → ℕ} (E : ℕ → ℕ → Bool) {x : ℕ} {d₀ : List ℕ} {y i : ℕ} {d : List ℕ} (n : ℕ) → Row f (apart E x) x d₀ y i d → y ≤ n → n ≤ y → Wrote (rowWords f E n x) d₀ i d
 unfolding rowWords
 row-end {f} E {x} {d₀} {y} {i} n w a b =
     let e : y ≡ n = le-antisymm a b in
     record {
-      is = w .is ∙ ap (λ (k : ℕ). over (flat (pairWords f x) (chosen (apart E x) k)) d₀) e;
-      ends = w .ends ∙ ap (λ (k : ℕ). 2 * count (apart E x) k) e ∙ sym (pair-words f x (secondsOf E n x) ∙ ap (λ (k : ℕ). 2 * k) (chosen-count (apart E x) n));
+      wrote = w .is ∙ ap (λ (k : ℕ). over (flat (pairWords f x) (chosen (apart E x) k)) d₀) e;
+      words = w .ends ∙ ap (λ (k : ℕ). 2 * count (apart E x) k) e ∙ sym (pair-words f x (secondsOf E n x) ∙ ap (λ (k : ℕ). 2 * k) (chosen-count (apart E x) n));
     }
 
 pub row-fits : (f : ℕ → ℕ) (E : ℕ → ℕ → Bool) (n x : ℕ) (d : List ℕ) → length (rowWords f E n x) ≤ length d → 2 * count (apart E x) n ≤ length d

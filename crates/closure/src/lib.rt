@@ -3,13 +3,12 @@ ghost use mathlib.Core.Path.{_≡_};
 ghost use Prim.Native.Nat.{_*_, _<_, _≤_};
 ghost use lib.ListN.{length};
 ghost use Rattle.lists.specs.Tests.{count};
-ghost use Rattle.lists.specs.Lists.{over};
+ghost use Rattle.lists.specs.Lists.{over, Wrote};
 ghost use Rattle.layout.specs.Layout.{limit, vertexLimit, vertexCount, read};
 ghost use Rattle.layout.specs.WellFormed.{Formed};
 ghost use Rattle.layout.specs.Answers.{result, listed};
 ghost use Rattle.graph.specs.Reach.{matrix};
 ghost use Rattle.steps.specs.Matrices.{numberOf};
-ghost use Rattle.components.specs.Parts.{Written};
 ghost use Rattle.closure.specs.Pairs.{apart, rowWords, pairsWords};
 ghost use Rattle.closure.specs.State.{Copied, Closure, pairsBelow};
 use layout::Answer;
@@ -85,7 +84,7 @@ fn count_pairs(m: &[u8; 65536], n: usize) -> usize
 fn write_row(t: &[u32], m: &[u8; 65536], n: usize, x: usize, part: &mut [u32]) -> usize
     requires { ⌜ Formed limit (now t) ⌝ }
     requires { ⌜ (n ≡ vertexCount (now t)) × (x < n) × (length (rowWords (numberOf (read limit (now t))) (matrix (now m)) n x) ≤ length (now part)) ⌝ }
-    ensures { λ r. ⌜ Written (rowWords (numberOf (read limit (now (t .entry)))) (matrix (now (m .entry))) n x) (now (part .entry)) (now (part .exit)) r ⌝ }
+    ensures { λ r. ⌜ Wrote (rowWords (numberOf (read limit (now (t .entry)))) (matrix (now (m .entry))) n x) (now (part .entry)) r (now (part .exit)) ⌝ }
 {
     let from = layout::vertex_number(t, x);
     let mut i = 0;

@@ -1,10 +1,10 @@
 -- Laws of `tab`. Assumes nothing.
 use mathlib.Core.Path.{_≡_, refl, sym, ap, ap₂, _∙_}
 use mathlib.Core.List.{List, [], _∷_, _++_, map}
-use Prim.Native.Nat.{ℕ, zero, suc, _+_, _≤_, _<_, suc-le-suc, zero-le}
+use Prim.Native.Nat.{ℕ, zero, suc, _+_, _<_, suc-le-suc}
 use native.Mathlib.Nat.{not-suc-le-zero, le-of-suc-le-suc, zero-lt-suc}
 use native.Mathlib.Numerals.{add-one}
-use lib.ListN.{length, getD, take, drop}
+use lib.ListN.{length, getD, drop}
 use lib.Seq.{drop-cons}
 use Rattle.lists.specs.Lists.{tab}
 
@@ -39,13 +39,3 @@ pub drop-tab : {A : Type 0} (f : ℕ → A) (n i : ℕ) → i < n → drop i (ta
 drop-tab {A} f n i h =
     drop-cons (tab f n) i (f zero) (rw length-tab h)
     ∙ ap₂ (λ (x : A) (k : ℕ). x ∷ drop k (tab f n)) (getD-tab f n i (f zero) h) (sym (add-one i))
-
--- one element taken out: those before it stay, those behind it move down
-pub tab-without : {A : Type 0} (g h : ℕ → A) (n j : ℕ) → j < suc n → ((i : ℕ) → i < j → g i ≡ h i) → ((i : ℕ) → j ≤ i → i < n → g i ≡ h (suc i))
-    → tab g n ≡ take j (tab h (suc n)) ++ drop (suc j) (tab h (suc n))
-unfolding tab
-tab-without g h n zero l a b = tab-ext g (λ i. h (suc i)) n (λ i m. b i zero-le m)
-tab-without g h zero (suc j) l a b = absurd (not-suc-le-zero (le-of-suc-le-suc l))
-tab-without {A} g h (suc n) (suc j) l a b =
-    ap₂ _∷_ (a zero (zero-lt-suc j))
-    (tab-without (λ i. g (suc i)) (λ i. h (suc i)) n j (le-of-suc-le-suc l) (λ i m. a (suc i) (suc-le-suc m)) (λ i m o. b (suc i) (suc-le-suc m) (suc-le-suc o)))

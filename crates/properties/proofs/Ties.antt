@@ -14,12 +14,11 @@ use Rattle.lists.proofs.Maps.{map-length}
 use Rattle.lists.proofs.All.{all-at, all-of}
 use Rattle.lists.proofs.Memb.{memb-getD, memb-at}
 use Rattle.lists.proofs.Ascend.{ascending-apart}
-use Rattle.layout.specs.Content.{Hyperedge, Table, hyperedgeNumber, liveVertices, liveHyperedges, isLive, membersLive, lists, valid}
+use Rattle.layout.specs.Content.{Hyperedge, Table, hyperedgeNumber, liveVertices, liveHyperedges, isLive, membersLive, lists, valid, noHyperedge}
 use Rattle.layout.specs.Steps.{Step, stepsOf, isStep, makesStep, hasStep}
 use Rattle.layout.proofs.Read.{numbered-ascends}
 use Rattle.steps.specs.Matrices.{numberOf}
 use Rattle.steps.proofs.Any.{any-at, any-of}
-use Rattle.steps.proofs.Among.{noHyperedge}
 use Rattle.lookups.specs.Lookups.{hasEnd}
 use Rattle.properties.specs.Properties.{stepsAt, isEndpoint, memberSet, within, isWithin, pair, pairsOf, inclusions, hasSize, isIncluded, includedOfSize, included}
 use Rattle.properties.proofs.Subsets.{within-at, within-of}

@@ -12,7 +12,7 @@ use Rattle.lists.specs.Lists.{any, memb, turned}
 use Rattle.lists.proofs.Cases.{clash, or-true, or-right, and-left, and-right, and-both}
 use Rattle.lists.proofs.All.{all-at}
 use Rattle.lists.proofs.Memb.{memb-self, memb-at}
-use Rattle.layout.specs.Content.{Hyperedge, Table, liveVertices, isLive, membersLive, valid}
+use Rattle.layout.specs.Content.{Table, liveVertices, isLive, membersLive, valid, noHyperedge}
 use Rattle.layout.specs.Steps.{stepsOf, isStep, makesStep, hasStep}
 use Rattle.steps.specs.Matrices.{undirected, listsBoth, together}
 use Rattle.steps.proofs.Any.{any-at, any-of}
@@ -36,9 +36,6 @@ step-members x y (a ∷ b ∷ ms) e =
     (or-true (eqb a x and eqb b y) (any (isStep x y) (stepsOf (b ∷ ms))) e)
 
 -- what stands past the end of the hyperedges
-pub noHyperedge : Hyperedge
-noHyperedge = record { number = 0; weight = 0; members = [] }
-
 module _ (t : Table) where
   -- a step joins two members of a list
   pub step-together : (x y : ℕ) → hasStep t x y ≡ true → together t x y ≡ true

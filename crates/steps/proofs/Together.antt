@@ -12,17 +12,13 @@ use Rattle.lists.specs.Lists.{any, memb, turned}
 use Rattle.lists.proofs.Cases.{clash, or-true, or-right, and-left, and-right, and-both}
 use Rattle.walks.specs.Walks.{Reach, here, step}
 use Rattle.walks.proofs.Walks.{reach-trans, reach-through, reach-map}
-use Rattle.layout.specs.Content.{Table}
+use Rattle.layout.specs.Content.{Table, noHyperedge}
 use Rattle.layout.specs.Steps.{stepsOf, isStep, makesStep, hasStep}
-use Rattle.steps.specs.Matrices.{undirected, listsBoth, together, Related, UndirectedIn, TogetherIn}
+use Rattle.steps.specs.Matrices.{undirected, listsBoth, together, UndirectedIn, TogetherIn}
 use Rattle.steps.proofs.Any.{any-at, any-of}
-use Rattle.steps.proofs.Among.{noHyperedge, step-together, together-swap}
+use Rattle.steps.proofs.Among.{step-together, together-swap}
 
 -- ---- the other way round
-
-pub reach-turned : {R : ℕ → ℕ → Bool} {x y : ℕ} → Reach (Related (turned R)) x y → Reach (Related R) y x
-reach-turned here = here
-reach-turned (step {y = u} {z = v} a r) = reach-trans (step here r) (reach-turned a)
 
 pub reach-swap : {R : ℕ → ℕ → Type 0} {x y : ℕ} → ((u v : ℕ) → R u v → R v u) → Reach R x y → Reach R y x
 reach-swap h here = here

@@ -59,7 +59,7 @@ add-at c =
       arith,
       blocks-room (l .loop .inv .1) (s .args .n) (s .pre .1 .1) (c .before .before .before .before .loop-test .taken),
       long (c .before .before .before .before),
-      c .before .before .write-row .ensures .ends,
+      c .before .before .write-row .ensures .words,
       s .good,
     )
 
