@@ -8,7 +8,7 @@ use lib.Dec.{eqb, ltb}
 use lib.ListN.{length, getD, set}
 use lib.Seq.{getD-set-same, getD-set-other}
 use mir.Val.{boolByte}
-use borrow.Author.Tests.{eqb-true, ne-eqb, lt-ltb}
+use borrow.Author.Tests.{eqb-true, ne-eqb, lt-ltb, not-true, not-false}
 use Rattle.lists.proofs.Cases.{on-same, clash}
 use Rattle.lists.proofs.Count.{count-flip}
 use Rattle.depth.specs.Dfs.{Progress, unmarked, free, mark, enlist, tried, tries, visits}
@@ -23,14 +23,6 @@ free-mark n x m l b z =
     (λ y ne. ap (λ (i : ℕ). eqb i 0) (sym (getD-set-other m x y 1 0 ne)))
 
 -- ---- the code's test
-
-not-true : (b : Bool) → not b ≡ true → b ≡ false
-not-true true e = clash e refl
-not-true false e = refl
-
-not-false : (b : Bool) → not b ≡ false → b ≡ true
-not-false true e = refl
-not-false false e = clash refl e
 
 pub due-free : (a : Bool) (m : ℕ) → not (a && eqb m 0) ≡ false → m ≡ 0
 due-free true m e = eqb-true m 0 (not-false (eqb m 0) e)

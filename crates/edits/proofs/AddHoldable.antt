@@ -21,10 +21,10 @@ use Rattle.edits.specs.Edits.{addVertex, addHyperedge, withMembers, upda
 
 -- ---- tests of every element
 
-all-map : {A : Type 0} (f : A → Bool) (k : A → A) (xs : List A) → ((x : A) → f x ≡ true → f (k x) ≡ true) → all f xs ≡ true → all f (map k xs) ≡ true
+all-kept : {A : Type 0} (f : A → Bool) (k : A → A) (xs : List A) → ((x : A) → f x ≡ true → f (k x) ≡ true) → all f xs ≡ true → all f (map k xs) ≡ true
 unfolding all
-all-map f k [] h e = refl
-all-map f k (x ∷ xs) h e = and-both _ _ (h x (and-left _ _ e)) (all-map f k xs h (and-right _ _ e))
+all-kept f k [] h e = refl
+all-kept f k (x ∷ xs) h e = and-both _ _ (h x (and-left _ _ e)) (all-kept f k xs h (and-right _ _ e))
 
 all-more : {A : Type 0} (f : A → Bool) (xs : List A) (x : A) → all f xs ≡ true → f x ≡ true → all f (xs ++ (x ∷ [])) ≡ true
 all-more f xs x e h = all-snoc f xs x ∙ and-both _ _ e h
@@ -126,10 +126,10 @@ module _ (L : ℕ) (ms : List ℕ) (t : Table) (h : holdable L t ≡ true) (pos 
       holdable-by (record {
         vertices-le = p .vertices-le;
         hyperedges-le = rw map-length (p .hyperedges-le);
-        counts = all-map (countFits L) (withMembers x ms) (t .hyperedges) (with-either (countFits L) x ms (λ e. list-counted L _ pos le)) (p .counts);
+        counts = all-kept (countFits L) (withMembers x ms) (t .hyperedges) (with-either (countFits L) x ms (λ e. list-counted L _ pos le)) (p .counts);
         vertices-numbered = p .vertices-numbered;
         hyperedges-numbered = rw (update-live x ms t) (p .hyperedges-numbered);
-        members-live = all-map (membersLive (liveVertices t)) (withMembers x ms) (t .hyperedges) (with-either (membersLive (liveVertices t)) x ms (λ e. live)) (p .members-live);
+        members-live = all-kept (membersLive (liveVertices t)) (withMembers x ms) (t .hyperedges) (with-either (membersLive (liveVertices t)) x ms (λ e. live)) (p .members-live);
       })
 
 -- ---- a number is not given twice: those given are below the next number, a new one is the next number, and the next number never falls

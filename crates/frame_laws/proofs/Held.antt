@@ -1,6 +1,6 @@
 -- A content that a table can hold: its numbers, and its words. Assumes nothing.
 use mathlib.Core.Path.{_≡_, refl, ap}
-use mathlib.Core.Bool.{Bool, true}
+use mathlib.Core.Bool.{true}
 use mathlib.Core.List.{List, [], _∷_, _++_}
 use Prim.Native.Nat.{ℕ, zero, suc, _+_, _-_, _*_, _≤_, _<_, suc-le-suc}
 use native.Mathlib.Nat.{zero-lt-suc}
@@ -10,8 +10,8 @@ use lib.Seq.{getD-take, getD-drop}
 use borrow.Author.Tests.{ltb-true, lt-ltb}
 use Rattle.lists.specs.Tests.{_and_}
 use Rattle.lists.specs.Lists.{all, flat, pad, Ascending}
-use Rattle.lists.proofs.Cases.{on-below, and-left, and-right, and-both}
-use Rattle.lists.proofs.All.{all-at, all-of}
+use Rattle.lists.proofs.Cases.{on-below, and-both}
+use Rattle.lists.proofs.All.{all-at, all-of, all-join}
 use Rattle.lists.proofs.Tab.{length-tab, getD-tab}
 use Rattle.lists.proofs.Maps.{map-length}
 use Rattle.lists.proofs.Memb.{memb-at}
@@ -80,11 +80,6 @@ module _ (ws : List ℕ) (a : all isWord ws ≡ true) where
     hyperedge-weight = λ j h. rw (getD-tab (hyperedgeAt limit ws) (hyperedgeCount ws) j noHyperedge (rw length-tab at h)) (word-at (hyperedgeWord limit j + 1));
     members = λ j h. rw (getD-tab (hyperedgeAt limit ws) (hyperedgeCount ws) j noHyperedge (rw length-tab at h)) (part-words (countAt limit ws j) (hyperedgeWord limit j + 3));
   }
-
-all-join : {A : Type 0} (f : A → Bool) (xs ys : List A) → all f xs ≡ true → all f ys ≡ true → all f (xs ++ ys) ≡ true
-unfolding all
-all-join f [] ys a b = b
-all-join f (x ∷ xs) ys a b = and-both _ _ (and-left _ _ a) (all-join f xs ys (and-right _ _ a) b)
 
 all-flat : {A : Type 0} (f : A → List ℕ) (xs : List A) (d : A) → ((i : ℕ) → i < length xs → all isWord (f (getD xs i d)) ≡ true) → all isWord (flat f xs) ≡ true
 unfolding all flat

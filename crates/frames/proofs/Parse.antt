@@ -11,6 +11,7 @@ use lib.Dec.{eqb}
 use lib.ListN.{length, getD, take, drop, length-append, length-drop, take-append-drop}
 use lib.Seq.{drop-cons, drop-drop, take-at, getD-drop}
 use borrow.Author.Tests.{ltb-true, lt-ltb, le-ltb, eqb-true, eq-eqb}
+use Rattle.lists.proofs.All.{all-append}
 use Rattle.lists.specs.Tests.{_and_, every}
 use Rattle.lists.specs.Lists.{all, isBelow, sameList, tab, flat, sumOver}
 use Rattle.lists.proofs.Cases.{on-below, clash, and-left, and-right, and-both}
@@ -20,11 +21,6 @@ use Rattle.frames.specs.Frames.{byteValues, byteOf, numberBytes, shortBy
 use Rattle.frames.specs.Reading.{noValue, value, byteAt, shortAt, numberAt, standsAt}
 use Rattle.frames.specs.Bytes.{bytesAt}
 use Rattle.frames.proofs.Lines.{sum-append}
-
-all-append : {A : Type 0} (f : A → Bool) (xs ys : List A) → all f (xs ++ ys) ≡ true → (all f xs ≡ true) × (all f ys ≡ true)
-unfolding all
-all-append f [] ys h = (refl, h)
-all-append f (x ∷ xs) ys h = let r = all-append f xs ys (and-right _ _ h) in (and-both _ _ (and-left _ _ h) (r .0), r .1)
 
 pub number-low : (x : ℕ) → all (isBelow byteValues) (numberBytes x) ≡ true
 unfolding all numberBytes

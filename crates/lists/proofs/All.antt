@@ -31,6 +31,19 @@ module _ {A : Type 0} (f : A → Bool) where
   all-snoc [] x = and-true (f x)
   all-snoc (y ∷ ys) x = ap (λ (b : Bool). f y and b) (all-snoc ys x) ∙ sym (and-assoc (f y) (all f ys) (f x))
 
+  -- two lists, one after the other
+  pub all-join : (xs ys : List A) → all f xs ≡ true → all f ys ≡ true → all f (xs ++ ys) ≡ true
+  unfolding all
+  all-join [] ys a b = b
+  all-join (x ∷ xs) ys a b = and-both (f x) (all f (xs ++ ys)) (and-left (f x) (all f xs) a) (all-join xs ys (and-right (f x) (all f xs) a) b)
+
+  pub all-append : (xs ys : List A) → all f (xs ++ ys) ≡ true → (all f xs ≡ true) × (all f ys ≡ true)
+  unfolding all
+  all-append [] ys h = (refl, h)
+  all-append (x ∷ xs) ys h =
+      let r = all-append xs ys (and-right (f x) (all f (xs ++ ys)) h) in
+      (and-both (f x) (all f xs) (and-left (f x) (all f (xs ++ ys)) h) (r .0), r .1)
+
 pub all-ext : {A : Type 0} (f g : A → Bool) (xs : List A) → ((x : A) → f x ≡ g x) → all f xs ≡ all g xs
 unfolding all
 all-ext f g [] h = refl

@@ -6,6 +6,7 @@ use Prim.Native.Nat.{ℕ, _+_, _≤_, _<_}
 use native.Mathlib.Omega.{arith}
 use lib.ListN.{length, drop}
 use borrow.Author.Tests.{leb-true, not-true, not-false}
+use Rattle.lists.proofs.All.{all-join}
 use Rattle.lists.specs.Tests.{_and_}
 use Rattle.lists.specs.Lists.{all, isBelow, flat}
 use Rattle.lists.proofs.Cases.{on, clash, and-left, and-right, and-both}
@@ -20,7 +21,7 @@ use Rattle.frames.proofs.Parse.{bytes-append, bytes-front, short-bytes, number-
 use Rattle.reader.specs.Lines.{sealedAt, Sealed, countsFit}
 use Rattle.reader.specs.Passes.{HeadStored, headWords}
 use Rattle.reader.proofs.Frame.{sealed-is, number-word-at}
-use Rattle.reader.proofs.Records.{low-append, frame-sealed, frame-stands}
+use Rattle.reader.proofs.Records.{frame-sealed, frame-stands}
 use Rattle.reader.proofs.Puts.{put-in}
 
 module _ (text : List ℕ) where
@@ -31,9 +32,9 @@ module _ (text : List ℕ) where
   unfolding frame headFrame all
   low =
       and-both _ _ refl (and-both _ _ refl (and-both _ _ refl
-      (low-append (numberBytes (nextVertexOf text)) _ (number-low (nextVertexOf text))
-      (low-append (numberBytes (nextHyperedgeOf text)) _ (number-low (nextHyperedgeOf text))
-      (low-append (shortBytes (verticesDue text)) (shortBytes (hyperedgesDue text)) (short-low (verticesDue text)) (short-low (hyperedgesDue text)))))))
+      (all-join (isBelow byteValues) (numberBytes (nextVertexOf text)) _ (number-low (nextVertexOf text))
+      (all-join (isBelow byteValues) (numberBytes (nextHyperedgeOf text)) _ (number-low (nextHyperedgeOf text))
+      (all-join (isBelow byteValues) (shortBytes (verticesDue text)) (shortBytes (hyperedgesDue text)) (short-low (verticesDue text)) (short-low (hyperedgesDue text)))))))
 
   -- every head line opens with 484731
   opens : (x y n m : ℕ) (rest : List ℕ) → line (headFrame x y n m) ++ rest ≡ opening ++ drop 6 (line (headFrame x y n m) ++ rest)

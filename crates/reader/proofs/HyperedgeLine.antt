@@ -7,6 +7,7 @@ use native.Mathlib.Nat.{add-zero}
 use native.Mathlib.Omega.{arith}
 use lib.ListN.{length, getD}
 use borrow.Author.Tests.{le-leb, leb-true, lt-ltb, ltb-true, not-true, not-false}
+use Rattle.lists.proofs.All.{all-join}
 use Rattle.lists.specs.Tests.{_and_}
 use Rattle.lists.specs.Lists.{all, isBelow, tab, flat}
 use Rattle.lists.proofs.Cases.{on, and-left, and-right, and-both}
@@ -22,14 +23,14 @@ use Rattle.frames.proofs.Text.{numbers-length}
 use Rattle.reader.specs.Lines.{sealedAt, Sealed, numberFits}
 use Rattle.reader.specs.Hyperedges.{hyperedgeFits}
 use Rattle.reader.proofs.Frame.{sealed-is}
-use Rattle.reader.proofs.Records.{low-append, frame-sealed, frame-stands, within, first}
+use Rattle.reader.proofs.Records.{frame-sealed, frame-stands, within, first}
 
 -- ---- the bytes of a hyperedge's frame
 
 low-numbers : (ms : List ℕ) → all (isBelow byteValues) (flat numberBytes ms) ≡ true
 unfolding all flat
 low-numbers [] = refl
-low-numbers (x ∷ ms) = low-append (numberBytes x) (flat numberBytes ms) (number-low x) (low-numbers ms)
+low-numbers (x ∷ ms) = all-join (isBelow byteValues) (numberBytes x) (flat numberBytes ms) (number-low x) (low-numbers ms)
 
 -- the bytes that stand at a place, by the parts of such a frame
 parts : (text : List ℕ) (p k : ℕ)
@@ -62,8 +63,8 @@ module _ (text : List ℕ) (p : ℕ) where
   hyperedge-low h =
       let ms : List ℕ = tab (memberIn text p) (countIn text p) in
       let few : length ms < byteValues = rw (length-tab (memberIn text p) (countIn text p)) h in
-      and-both _ _ refl (low-append (numberBytes (numberIn text p)) (numberBytes (weightIn text p) ++ (length ms ∷ flat numberBytes ms)) (number-low (numberIn text p))
-      (low-append (numberBytes (weightIn text p)) (length ms ∷ flat numberBytes ms) (number-low (weightIn text p))
+      and-both _ _ refl (all-join (isBelow byteValues) (numberBytes (numberIn text p)) (numberBytes (weightIn text p) ++ (length ms ∷ flat numberBytes ms)) (number-low (numberIn text p))
+      (all-join (isBelow byteValues) (numberBytes (weightIn text p)) (length ms ∷ flat numberBytes ms) (number-low (weightIn text p))
       (and-both _ _ (lt-ltb (length ms) byteValues few) (low-numbers ms))))
 
   hyperedge-size : length hyperedge-bytes ≡ 10 + countIn text p * 4

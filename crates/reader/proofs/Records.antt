@@ -1,12 +1,13 @@
 -- The lines of records: what the tests say of what the writer gives. Assumes nothing.
 use mathlib.Core.Path.{_≡_, refl, sym, ap, ap₂, _∙_}
 use mathlib.Core.Bool.{Bool, true, false, not}
-use mathlib.Core.List.{List, [], _∷_, _++_}
+use mathlib.Core.List.{List, _∷_, _++_}
 use Prim.Native.Nat.{ℕ, suc, _+_, _*_, _%_, _≤_}
 use native.Mathlib.Nat.{add-zero}
 use native.Mathlib.Omega.{arith}
 use lib.ListN.{length, getD}
 use borrow.Author.Tests.{le-leb, leb-true, eq-eqb, eqb-true, not-true, not-false}
+use Rattle.lists.proofs.All.{all-join}
 use Rattle.lists.specs.Tests.{_and_}
 use Rattle.lists.specs.Lists.{all, isBelow}
 use Rattle.lists.proofs.Cases.{on, clash, and-left, and-right, and-both}
@@ -18,11 +19,6 @@ use Rattle.frames.proofs.Lines.{sealed-sum}
 use Rattle.frames.proofs.Parse.{bytes-at, bytes-append, bytes-front, number-bytes, line-stands, line-parts, sealed-low, number-low}
 use Rattle.reader.specs.Lines.{sealedAt, Sealed, numberFits, vertexFits}
 use Rattle.reader.proofs.Frame.{sealed-is}
-
-pub low-append : (xs ys : List ℕ) → all (isBelow byteValues) xs ≡ true → all (isBelow byteValues) ys ≡ true → all (isBelow byteValues) (xs ++ ys) ≡ true
-unfolding all
-low-append [] ys a b = b
-low-append (x ∷ xs) ys a b = and-both _ _ (and-left _ _ a) (low-append xs ys (and-right _ _ a) b)
 
 -- a frame of bytes: its line stands exactly where the test of a frame passes, and its bytes are those
 module _ (text : List ℕ) (p : ℕ) (fr : List ℕ) where
@@ -57,7 +53,7 @@ module _ (text : List ℕ) (p low high : ℕ) where
 
   vertex-low : all (isBelow byteValues) vertex-bytes ≡ true
   unfolding vertex-bytes vertexFrame all
-  vertex-low = and-both _ _ refl (low-append (numberBytes (numberIn text p)) (numberBytes (weightIn text p)) (number-low (numberIn text p)) (number-low (weightIn text p)))
+  vertex-low = and-both _ _ refl (all-join (isBelow byteValues) (numberBytes (numberIn text p)) (numberBytes (weightIn text p)) (number-low (numberIn text p)) (number-low (weightIn text p)))
 
   vertex-sealed : p ≤ length text → standsAt text p (vertexLine (vertexOf (numberIn text p) (weightIn text p))) ≡ true → (sealedAt text p 10 ≡ true) × (byteAt text p ≡ 1)
   unfolding vertexLine vertex-bytes vertexFrame numberBytes sealed
