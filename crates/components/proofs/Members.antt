@@ -13,7 +13,7 @@ use Rattle.lists.specs.Lists.{memb, Below, Ascending, turned}
 use Rattle.lists.proofs.Cases.{on, on-same, on-below, clash}
 use Rattle.lists.proofs.Maps.{map-length, map-snoc}
 use Rattle.lists.proofs.Memb.{memb-snoc, memb-snoc-self, memb-left, memb-getD, below-memb}
-use Rattle.steps.proofs.Any.{any-at}
+use Rattle.lists.proofs.Any.{any-at}
 use Rattle.components.specs.Classes.{rootsOf}
 use Rattle.components.proofs.Roots.{Equivalence, roots-cover, roots-below, roots-apart}
 

@@ -16,7 +16,7 @@ use Rattle.lists.proofs.Memb.{below-snoc, below-memb, memb-getD}
 use Rattle.lists.proofs.Count.{bit-one}
 use Rattle.graph.specs.Bfs.{bfs}
 use Rattle.graph.specs.Held.{Marks}
-use Rattle.steps.proofs.Any.{any-at, any-of}
+use Rattle.lists.proofs.Any.{any-at, any-of}
 use Rattle.components.specs.Classes.{reached, rootsOf, rootsFrom, rooted}
 use Rattle.components.specs.Parts.{flagged, inClass, Joined, Tried, Parted, Parting, Partition}
 use Rattle.components.proofs.Roots.{Equivalence, rooted-old, rooted-new, roots-more, roots-end, roots-cover}

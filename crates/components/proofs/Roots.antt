@@ -14,7 +14,7 @@ use Rattle.lists.specs.Lists.{memb, any, Below, turned}
 use Rattle.lists.proofs.Cases.{on, on-same, clash, or-true, or-right}
 use Rattle.lists.proofs.Chosen.{chosen-ext}
 use Rattle.lists.proofs.Memb.{below-snoc}
-use Rattle.steps.proofs.Any.{any-snoc, any-of}
+use Rattle.lists.proofs.Any.{any-snoc, any-of}
 use Rattle.components.specs.Classes.{class, rooted, rootsFrom, rootsOf, classes}
 
 -- a relation whose classes part the numbers below n: each is joined with itself, and two that are joined with one with each other

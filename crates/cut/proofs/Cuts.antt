@@ -25,7 +25,7 @@ use Rattle.graph.proofs.Bfs.{bfs-sound, bfs-complete}
 use Rattle.edits.specs.Edits.{removeVertex}
 use Rattle.edits.proofs.Holdable.{remove-vertex-holdable}
 use Rattle.steps.specs.Matrices.{together, TogetherIn, numberOf, between, Holds}
-use Rattle.steps.proofs.Any.{any-at, any-of}
+use Rattle.lists.proofs.Any.{any-at, any-of}
 use Rattle.steps.proofs.Among.{Among, together-swap, together-among}
 use Rattle.steps.proofs.Records.{Agrees, record-once, record-of, holds-agrees, reach-numbers, reach-records}
 use Rattle.marks.specs.Marks.{marked}

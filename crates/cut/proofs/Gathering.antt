@@ -28,7 +28,7 @@ use Rattle.layout.specs.WellFormed.{Formed}
 use Rattle.layout.proofs.Position.{position-here}
 use Rattle.layout.proofs.Read.{live-length, live-ascends, members-le, vertex-found}
 use Rattle.steps.specs.Matrices.{together, listsBoth, numberOf, between, cell, Holds}
-use Rattle.steps.proofs.Any.{any-more}
+use Rattle.lists.proofs.Any.{any-more}
 use Rattle.steps.proofs.Holds.{holds-ext, holds-none, holds-set}
 use Rattle.steps.proofs.Members.{members-live}
 use Rattle.cut.specs.Cut.{recordOf}

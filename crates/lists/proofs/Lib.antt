@@ -2,6 +2,7 @@ pub mod Cases
 pub mod Maps
 pub mod Tab
 pub mod All
+pub mod Any
 pub mod Every
 pub mod Memb
 pub mod Count

@@ -9,8 +9,13 @@ use native.Mathlib.Omega.{arith}
 use lib.Dec.{eqb}
 use lib.ListN.{length, getD}
 use borrow.Author.Tests.{eqb-true, eqb-false, eq-eqb, ne-eqb}
-use Rattle.lists.specs.Lists.{memb, Distinct, Below}
+use Rattle.lists.specs.Lists.{any, memb, Distinct, Below}
 use Rattle.lists.proofs.Cases.{eq-or-ne, clash, or-true, or-false, or-right, or-false-left, or-false-right}
+
+pub any-memb : (x : ℕ) (ys : List ℕ) → any (eqb x) ys ≡ memb x ys
+unfolding any
+any-memb x [] = refl
+any-memb x (y ∷ ys) = ap (λ (b : Bool). eqb x y || b) (any-memb x ys)
 
 pub memb-append : (x : ℕ) (a b : List ℕ) → memb x (a ++ b) ≡ (memb x a || memb x b)
 memb-append x [] b = refl

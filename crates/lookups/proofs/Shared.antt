@@ -10,6 +10,7 @@ use lib.Dec.{eqb}
 use lib.ListN.{length, getD, set, replicate, length-set, length-replicate, getD-replicate}
 use lib.Seq.{getD-set-same, getD-set-other}
 use borrow.Author.Tests.{eq-eqb, eqb-true, lt-ltb, le-ltb}
+use Rattle.lists.proofs.Memb.{any-memb}
 use Rattle.lists.specs.Tests.{_and_}
 use Rattle.lists.specs.Lists.{all, any, memb, tab}
 use Rattle.lists.proofs.Cases.{clash, on-same, test-ext, and-left, and-right, and-both, and-false-left, and-false-right, and-true, and-assoc, or-true, or-right, or-false-left, or-false-right, eqb-comm}
@@ -67,11 +68,6 @@ module _ {others old : List Bool} {k : ℕ} {new : List Bool} (c : Common others
 
 -- ---- the members of a record: ms is what `members_formed` returned, others what `member_marks` left
 
-some-memb : (y : ℕ) (ms : List ℕ) → any (eqb y) ms ≡ memb y ms
-unfolding any
-some-memb y [] = refl
-some-memb y (m ∷ ms) = ap (λ (b : Bool). eqb y m || b) (some-memb y ms)
-
 pub kept-members : (L : ℕ) (ws ms : List ℕ) (j : ℕ) (others old new : List Bool) → Formed L ws → ms ≡ membersAt L ws j
     → MarkedBy (liveVertices (read L ws)) (someOf eqb ms) noMarks others → Both others old new
     → KeptBy (liveVertices (read L ws)) (with lists (hyperedgeAt L ws j)) old new
@@ -82,7 +78,7 @@ kept-members L ws ms j others old new f e m b = record {
       let l : k < vertexLimit = omega (arith, live-length L ws, f .shape .vertices-le) in
       b .each k l ∙ ap (λ (t : Bool). isMarked old k and t)
       (m .each k h ∙ ap (λ (t : Bool). t || any (eqb (getD (liveVertices (read L ws)) k 0)) ms) (no-mark k l)
-      ∙ some-memb (getD (liveVertices (read L ws)) k 0) ms ∙ ap (memb (getD (liveVertices (read L ws)) k 0)) e);
+      ∙ any-memb (getD (liveVertices (read L ws)) k 0) ms ∙ ap (memb (getD (liveVertices (read L ws)) k 0)) e);
 }
 
 -- ---- a loop along the list: what is marked, and passes with all that is left, is what passes with all

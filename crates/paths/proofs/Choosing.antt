@@ -1,7 +1,7 @@
 -- The choices while the lists are gone through: one step more, one list more, all lists. Assumes nothing.
 use mathlib.Core.Path.{_≡_, refl, sym, ap, ap₂, _∙_, subst}
 use mathlib.Core.Bool.{Bool, true, false, _||_, cond}
-use mathlib.Core.List.{List, [], _∷_}
+use mathlib.Core.List.{List}
 use Prim.Native.Nat.{ℕ, zero, suc, _+_, _*_, _≤_, _<_}
 use native.Mathlib.Nat.{le-antisymm}
 use native.Mathlib.Numerals.{add-one}
@@ -22,7 +22,8 @@ use Rattle.layout.specs.Steps.{stepsOf, isStep, makesStep}
 use Rattle.layout.proofs.Position.{position-found}
 use Rattle.layout.proofs.Read.{live-length, live-ascends}
 use Rattle.steps.specs.Matrices.{numberOf, cell}
-use Rattle.steps.proofs.Any.{any-snoc, steps-more}
+use Rattle.lists.proofs.Any.{any-snoc}
+use Rattle.steps.proofs.Placed.{steps-more, steps-none}
 use Rattle.steps.proofs.Drawing.{same-record, and-swap}
 use Rattle.paths.specs.Paths.{weightBy, lighter, choiceAmong, choice}
 use Rattle.paths.specs.Choices.{Weights, Values, among, Choosing, Chosen}
@@ -114,12 +115,8 @@ values-as ws false F G h w = values-ext (λ i j _ _. h (numberOf (read limit ws)
 module _ (ws : List ℕ) (j : ℕ) (ms : List ℕ) where
   -- one member: no step of the list yet
   soFar-first : (u v : ℕ) → choiceAmong (read limit ws) j u v ≡ soFar (read limit ws) j (take 1 ms) u v
-  unfolding soFar any stepsOf
-  soFar-first u v = sym (ap (λ (b : Bool). cond b (lighter (weightBy (read limit ws)) (choiceAmong (read limit ws) j u v) (suc j)) (choiceAmong (read limit ws) j u v)) (none ms))
-    where
-      none : (l : List ℕ) → any (isStep u v) (stepsOf (take 1 l)) ≡ false
-      none [] = refl
-      none (x ∷ l) = refl
+  unfolding soFar
+  soFar-first u v = sym (ap (λ (b : Bool). cond b (lighter (weightBy (read limit ws)) (choiceAmong (read limit ws) j u v) (suc j)) (choiceAmong (read limit ws) j u v)) (steps-none u v ms))
 
   soFar-more : (i : ℕ) → i + 1 < length ms → (u v : ℕ)
       → soFar (read limit ws) j (take (suc (i + 1)) ms) u v

@@ -16,7 +16,7 @@ use Rattle.lists.proofs.Ascend.{ascending-apart}
 use Rattle.layout.specs.Content.{Hyperedge, Table, hyperedgeNumber, liveHyperedges, valid, noHyperedge}
 use Rattle.layout.specs.Steps.{makesStep, hasStep}
 use Rattle.layout.proofs.Read.{numbered-ascends}
-use Rattle.steps.proofs.Any.{any-at, any-of}
+use Rattle.lists.proofs.Any.{any-at, any-of}
 use Rattle.paths.specs.Paths.{Lightest, hyperedgeBy, weightBy, lighter, choiceAmong, choice, stepHyperedge, stepCost}
 
 number-at : (es : List Hyperedge) (j : ℕ) → getD (map hyperedgeNumber es) j 0 ≡ getD es j noHyperedge .number

@@ -1,6 +1,6 @@
 -- Laws of the matrix that has a value for each pair of records, and of the weights by place. Assumes nothing.
 use mathlib.Core.Path.{_≡_, refl, sym, ap, _∙_, subst}
-use mathlib.Core.Bool.{Bool, false, not, cond}
+use mathlib.Core.Bool.{Bool, not, cond}
 use mathlib.Core.List.{List}
 use Prim.Native.Nat.{ℕ, zero, suc, _+_, _*_, _≤_, _<_}
 use native.Mathlib.Nat.{lt-irrefl, not-suc-le-zero, le-antisymm}
@@ -8,9 +8,10 @@ use native.Mathlib.Omega.{arith}
 use lib.Dec.{eqb, ltb}
 use lib.ListN.{getD, set, length-set, replicate, length-replicate, getD-replicate, List·getD-eq-default}
 use lib.Seq.{getD-set-same, getD-set-other, set-getD}
-use borrow.Author.Tests.{eq-eqb, ne-eqb, lt-ltb, ltb-true, le-ltb}
+use borrow.Author.Tests.{eq-eqb, lt-ltb, ltb-true, le-ltb}
+use Rattle.steps.proofs.Holds.{cells-apart}
 use Rattle.lists.specs.Tests.{_and_}
-use Rattle.lists.proofs.Cases.{on, on-same, on-below, clash, and-both, and-false-left, and-false-right}
+use Rattle.lists.proofs.Cases.{on, on-same, on-below, clash, and-both, and-false-right}
 use Rattle.lists.proofs.Tab.{length-tab, getD-tab}
 use Rattle.layout.specs.Content.{Hyperedge, Table, noHyperedge}
 use Rattle.layout.specs.Layout.{limit, vertexLimit, hyperedgeCount, hyperedgeAt, readHyperedges, read}
@@ -80,16 +81,10 @@ module _ {f : ℕ → ℕ → ℕ} {n : ℕ} {c : List ℕ} (w : Values f n c) (
           ∙ sym (ap (λ (z : Bool). cond z (g a b) 0) (and-both (ltb a n) (ltb b n) (lt-ltb a n la) (lt-ltb b n lb))
           ∙ e a b la lb ∙ ap (λ (z : Bool). cond z (h (f a b)) (f a b)) (and-both _ _ (eq-eqb a a refl) (eq-eqb b b refl))))
 
-      apart : (i j : ℕ) → (cell i j ≡ cell a b → ⊥) → (eqb i a and eqb j b) ≡ false
-      apart i j ne =
-          on-same i a
-          (λ p. on-same j b (λ q. absurd (ne (rw (p, q)))) (λ q. and-false-right (eqb i a) (eqb j b) (ne-eqb j b q)))
-          (λ p. and-false-left (eqb i a) (eqb j b) (ne-eqb i a p))
-
       other : (i j : ℕ) → i < vertexLimit → j < vertexLimit → (cell i j ≡ cell a b → ⊥) → getD (set c (cell a b) x) (cell i j) 0 ≡ cond (ltb i n and ltb j n) (g i j) 0
       other i j li lj ne =
           getD-set-other c (cell a b) (cell i j) x 0 ne ∙ w .entry i j li lj
-          ∙ entry-same n i j (f i j) (g i j) (λ p q. sym (e i j p q ∙ ap (λ (z : Bool). cond z (h (f i j)) (f i j)) (apart i j ne)))
+          ∙ entry-same n i j (f i j) (g i j) (λ p q. sym (e i j p q ∙ ap (λ (z : Bool). cond z (h (f i j)) (f i j)) (cells-apart i j a b ne)))
 
 -- ---- a choice, for `search`: p and q are the weights that `weight_at` found
 

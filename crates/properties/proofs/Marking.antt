@@ -8,6 +8,7 @@ use native.Mathlib.Omega.{arith}
 use lib.Dec.{eqb}
 use lib.ListN.{length, getD, take, drop, set, length-set, length-drop, getD-replicate}
 use lib.Seq.{getD-set-same, getD-set-other, take-all}
+use Rattle.lists.proofs.Memb.{any-memb}
 use Rattle.lists.specs.Lists.{any, memb, filter}
 use Rattle.lists.proofs.Cases.{on-same, eqb-comm}
 use Rattle.layout.specs.Content.{Table, liveVertices, lists}
@@ -28,11 +29,6 @@ any-ext : {A : Type 0} (f g : A → Bool) (xs : List A) → ((x : A) → f x ≡
 unfolding any
 any-ext f g [] h = refl
 any-ext f g (x ∷ xs) h = ap₂ _||_ (h x) (any-ext f g xs h)
-
-pub any-memb : (y : ℕ) (xs : List ℕ) → any (eqb y) xs ≡ memb y xs
-unfolding any
-any-memb y [] = refl
-any-memb y (x ∷ xs) = ap (λ (b : Bool). eqb y x || b) (any-memb y xs)
 
 -- ---- a record: ms is what `members_formed` returned
 

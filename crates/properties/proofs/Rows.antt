@@ -21,7 +21,7 @@ use Rattle.layout.specs.Content.{Table}
 use Rattle.layout.specs.Layout.{limit, vertexLimit, vertexCount, hyperedgeCount, vertexAt, hyperedgeAt, readHyperedges, readVertices, read}
 use Rattle.layout.specs.WellFormed.{Formed}
 use Rattle.marks.specs.Marks.{isMarked}
-use Rattle.steps.proofs.Any.{any-at, any-of}
+use Rattle.lists.proofs.Any.{any-at, any-of}
 use Rattle.lookups.specs.State.{noMarks}
 use Rattle.lookups.proofs.Marking.{no-marks-length}
 use Rattle.properties.specs.Properties.{isWithin, hasSize, isIncluded, includedOfSize, included, totalOf, isSize, row, nestedness}

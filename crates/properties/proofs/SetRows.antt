@@ -10,6 +10,7 @@ use lib.Dec.{eqb}
 use lib.ListN.{length, getD, set, length-set}
 use lib.Seq.{getD-set-same, getD-set-other}
 use borrow.Author.Tests.{not-true, not-false}
+use Rattle.lists.proofs.Memb.{any-memb}
 use Rattle.lists.specs.Tests.{_and_, every, count}
 use Rattle.lists.specs.Lists.{any, memb}
 use Rattle.lists.proofs.Cases.{on, on-same, clash, and-true, and-false-right}
@@ -25,7 +26,7 @@ use Rattle.steps.specs.Matrices.{cell}
 use Rattle.lookups.specs.State.{someOf, noMarks, MarkedBy}
 use Rattle.properties.specs.Properties.{memberSet, setSize, under, within, isWithin}
 use Rattle.properties.specs.State.{rowOf, SetOf, RowPut, Sets}
-use Rattle.properties.proofs.Marking.{any-memb, marks-are}
+use Rattle.properties.proofs.Marking.{marks-are}
 use Rattle.properties.proofs.Subsets.{strict-no, strict-if, within-ext}
 
 -- ---- the marks of a record: ms is what `members_formed` returned

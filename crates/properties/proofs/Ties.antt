@@ -18,7 +18,7 @@ use Rattle.layout.specs.Content.{Hyperedge, Table, hyperedgeNumber, liveVertice
 use Rattle.layout.specs.Steps.{Step, stepsOf, isStep, makesStep, hasStep}
 use Rattle.layout.proofs.Read.{numbered-ascends}
 use Rattle.steps.specs.Matrices.{numberOf}
-use Rattle.steps.proofs.Any.{any-at, any-of}
+use Rattle.lists.proofs.Any.{any-at, any-of}
 use Rattle.lookups.specs.Lookups.{hasEnd}
 use Rattle.properties.specs.Properties.{stepsAt, isEndpoint, memberSet, within, isWithin, pair, pairsOf, inclusions, hasSize, isIncluded, includedOfSize, included}
 use Rattle.properties.proofs.Subsets.{within-at, within-of}

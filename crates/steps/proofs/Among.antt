@@ -15,7 +15,7 @@ use Rattle.lists.proofs.Memb.{memb-self, memb-at}
 use Rattle.layout.specs.Content.{Table, liveVertices, isLive, membersLive, valid, noHyperedge}
 use Rattle.layout.specs.Steps.{stepsOf, isStep, makesStep, hasStep}
 use Rattle.steps.specs.Matrices.{undirected, listsBoth, together}
-use Rattle.steps.proofs.Any.{any-at, any-of}
+use Rattle.lists.proofs.Any.{any-at, any-of}
 
 -- both ends of the relation are live
 abbrev pub Among : List ℕ → (ℕ → ℕ → Bool) → Type 0

@@ -1,7 +1,7 @@
 -- The matrix while the lists are gone through: one step more, one list more, all lists. Assumes nothing.
 use mathlib.Core.Path.{_≡_, refl, sym, ap, ap₂, _∙_, subst}
 use mathlib.Core.Bool.{Bool, true, false, not, _||_, or-assoc}
-use mathlib.Core.List.{List, [], _∷_}
+use mathlib.Core.List.{List}
 use Prim.Native.Nat.{ℕ, suc, _+_, _*_, _≤_, _<_}
 use native.Mathlib.Nat.{le-antisymm}
 use native.Mathlib.Numerals.{add-one}
@@ -24,7 +24,8 @@ use Rattle.layout.proofs.Position.{position-found}
 use Rattle.layout.proofs.Read.{live-length, live-ascends}
 use Rattle.steps.specs.Matrices.{numberOf, between, undirected, cell, Holds, stepsBetween, turnedBetween, undirectedBetween}
 use Rattle.steps.specs.Drawn.{firstSteps, along, Drawn, putting}
-use Rattle.steps.proofs.Any.{any-snoc, any-more, steps-more}
+use Rattle.lists.proofs.Any.{any-snoc, any-more}
+use Rattle.steps.proofs.Placed.{steps-more, steps-none}
 use Rattle.steps.proofs.Holds.{holds-ext, holds-none, holds-putting}
 
 -- ---- a relation that grows by a step
@@ -106,12 +107,8 @@ module _ (ws : List ℕ) (forth back : Bool) where
 module _ (ws : List ℕ) (j : ℕ) (ms : List ℕ) where
   -- one member: no step of the list yet
   soFar-first : (u v : ℕ) → firstSteps (read limit ws) j u v ≡ soFar (read limit ws) j (take 1 ms) u v
-  unfolding soFar any stepsOf
-  soFar-first u v = sym (ap (λ (b : Bool). firstSteps (read limit ws) j u v || b) (none ms) ∙ or-false _)
-    where
-      none : (l : List ℕ) → any (isStep u v) (stepsOf (take 1 l)) ≡ false
-      none [] = refl
-      none (x ∷ l) = refl
+  unfolding soFar
+  soFar-first u v = sym (ap (λ (b : Bool). firstSteps (read limit ws) j u v || b) (steps-none u v ms) ∙ or-false _)
 
   soFar-more : (i : ℕ) → i + 1 < length ms → (u v : ℕ)
       → soFar (read limit ws) j (take (suc (i + 1)) ms) u v ≡ (soFar (read limit ws) j (take (suc i) ms) u v || (eqb (getD ms i 0) u and eqb (getD ms (i + 1) 0) v))

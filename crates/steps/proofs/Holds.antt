@@ -16,6 +16,13 @@ use Rattle.graph.specs.Reach.{matrix}
 use Rattle.steps.specs.Matrices.{cell, Holds}
 use Rattle.steps.specs.Drawn.{putting}
 
+-- two places of the matrix that differ are of two pairs
+pub cells-apart : (i j a b : ℕ) → (cell i j ≡ cell a b → ⊥) → (eqb i a and eqb j b) ≡ false
+cells-apart i j a b ne =
+    on-same i a
+    (λ p. on-same j b (λ q. absurd (ne (rw (p, q)))) (λ q. and-false-right (eqb i a) (eqb j b) (ne-eqb j b q)))
+    (λ p. and-false-left (eqb i a) (eqb j b) (ne-eqb i a p))
+
 -- the entry of a pair depends on the relation below n alone
 entry-same : (n i j : ℕ) (a b : Bool) → (i < n → j < n → a ≡ b) → bit (ltb i n and ltb j n and a) ≡ bit (ltb i n and ltb j n and b)
 unfolding _and_
@@ -74,16 +81,10 @@ module _ {E : ℕ → ℕ → Bool} {n : ℕ} {m : List ℕ} (w : Holds E n m) w
           rw (p, q) (getD-set-same m (cell a b) 1 0 (omega (arith, w .sized))
           ∙ sym (ap bit (and-both (ltb a n) (ltb b n and F a b) (lt-ltb a n la) (and-both (ltb b n) (F a b) (lt-ltb b n lb) f))))
 
-      apart : (i j : ℕ) → (cell i j ≡ cell a b → ⊥) → (eqb i a and eqb j b) ≡ false
-      apart i j ne =
-          on-same i a
-          (λ p. on-same j b (λ q. absurd (ne (rw (p, q)))) (λ q. and-false-right (eqb i a) (eqb j b) (ne-eqb j b q)))
-          (λ p. and-false-left (eqb i a) (eqb j b) (ne-eqb i a p))
-
       other : (i j : ℕ) → i < vertexLimit → j < vertexLimit → (cell i j ≡ cell a b → ⊥) → getD (set m (cell a b) 1) (cell i j) 0 ≡ bit (ltb i n and ltb j n and F i j)
       other i j li lj ne =
           getD-set-other m (cell a b) (cell i j) 1 0 ne ∙ w .entry i j li lj
-          ∙ entry-same n i j (E i j) (F i j) (λ p q. sym (h i j p q ∙ rw (apart i j ne) (or-false (E i j))))
+          ∙ entry-same n i j (E i j) (F i j) (λ p q. sym (h i j p q ∙ rw (cells-apart i j a b ne) (or-false (E i j))))
 
   pub holds-putting : {F : ℕ → ℕ → Bool} (due : Bool) (a b : ℕ) → n ≤ vertexLimit → a < n → b < n
       → ((i j : ℕ) → i < n → j < n → F i j ≡ (E i j || (due and (eqb i a and eqb j b)))) → Holds F n (putting due (cell a b) m)

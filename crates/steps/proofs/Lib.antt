@@ -1,4 +1,4 @@
-pub mod Any
+pub mod Placed
 pub mod Holds
 pub mod Members
 pub mod Drawing

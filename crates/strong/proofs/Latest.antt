@@ -11,7 +11,7 @@ use Rattle.lists.specs.Lists.{memb, Below, turned}
 use Rattle.lists.proofs.Count.{pigeon}
 use Rattle.lists.proofs.Memb.{memb-getD, below-memb}
 use Rattle.lists.proofs.Cases.{on-same, clash}
-use Rattle.steps.proofs.Any.{any-at, any-of}
+use Rattle.lists.proofs.Any.{any-at, any-of}
 use Rattle.depth.specs.Finish.{finished}
 use Rattle.depth.specs.Swept.{Finishes}
 use Rattle.depth.proofs.Finish.{finished-once, finished-below, finished-all}

@@ -1,4 +1,4 @@
--- Laws of `any`, and the steps of a list. Assumes nothing.
+-- Laws of `any`. Assumes nothing.
 use mathlib.Core.Path.{_≡_, refl, sym, ap, _∙_}
 use mathlib.Core.Bool.{Bool, true, _||_, or-assoc}
 use mathlib.Core.Logic.{⊎-elim}
@@ -8,9 +8,8 @@ use native.Mathlib.Nat.{not-suc-le-zero, le-of-suc-le-suc, zero-lt-suc}
 use native.Mathlib.Numerals.{add-one}
 use lib.ListN.{length, getD, take}
 use lib.Seq.{take-suc}
 use Rattle.lists.specs.Lists.{any}
 use Rattle.lists.proofs.Cases.{clash, or-true, or-right, or-false}
-use Rattle.layout.specs.Steps.{Step, stepsOf}
 
 module _ {A : Type 0} (f : A → Bool) where
   pub any-snoc : (xs : List A) (x : A) → any f (xs ++ (x ∷ [])) ≡ (any f xs || f x)
@@ -37,13 +36,3 @@ module _ {A : Type 0} (f : A → Bool) where
   any-of [] d i h e = clash refl (absurd (not-suc-le-zero h))
   any-of (x ∷ xs) d zero h e = rw e
   any-of (x ∷ xs) d (suc i) h e = or-right (f x) (any f xs) (any-of xs d i (le-of-suc-le-suc h) e)
-
--- one place more has one step more
-pub steps-more : (ms : List ℕ) (i : ℕ) → suc i < length ms
-    → stepsOf (take (suc (suc i)) ms) ≡ stepsOf (take (suc i) ms) ++ (record { from = getD ms i 0; to = getD ms (suc i) 0 } ∷ [])
-unfolding stepsOf
-steps-more [] i h = absurd (not-suc-le-zero h)
-steps-more (x ∷ []) i h = absurd (not-suc-le-zero (le-of-suc-le-suc h))
-steps-more (x ∷ y ∷ ms) zero h = refl
-steps-more (x ∷ y ∷ ms) (suc i) h =
-    ap (λ (r : List Step). record { from = x; to = y } ∷ r) (steps-more (y ∷ ms) i (le-of-suc-le-suc h))
