@@ -14,13 +14,9 @@ apart E x y = not (eqb x y) and E x y
 abbrev pub secondsOf : (ℕ → ℕ → Bool) → ℕ → ℕ → List ℕ
 secondsOf E n x = chosen (apart E x) n
 
--- a pair in two words
-abbrev pub pairOf : ℕ → ℕ → List ℕ
-pairOf x y = x ∷ y ∷ []
-
--- the same, where f gives each number its word
+-- a pair in two words: f gives each number its word
 abbrev pub pairWords : (ℕ → ℕ) → ℕ → ℕ → List ℕ
-pairWords f x y = pairOf (f x) (f y)
+pairWords f x y = f x ∷ f y ∷ []
 
 -- the pairs whose first is x
 unfoldable pub rowWords : (ℕ → ℕ) → (ℕ → ℕ → Bool) → ℕ → ℕ → List ℕ

@@ -2,9 +2,9 @@
 pub mod add_hyperedge;
 pub mod add_vertex;
 pub mod hypergraph;
-pub mod member_lists;
-pub mod records;
+mod member_lists;
+mod records;
 pub mod remove_hyperedge;
 pub mod remove_vertex;
-pub mod shift;
+mod shift;
 pub mod update_hyperedge_vertices;

@@ -16,7 +16,13 @@ use Rattle.layout.proofs.Read.{live-length}
 use Rattle.distance.specs.Best.{Walk, total, Best}
 use Rattle.distance.proofs.Best.{best-sound, best-computed, best-short, none-sound, none-computed}
 use Rattle.steps.proofs.Among.{steps-among}
-use Rattle.paths.specs.Paths.{stepHyperedge, stepCost, bestPath, entriesAfter, pathWords}
+use Rattle.paths.specs.Paths.{weightBy, choice, stepHyperedge, stepCost, bestPath, entriesAfter, pathWords}
+
+-- no total passes the steps times the greatest weight
+total-bound : (t : Table) (b u : ℕ) (l : List ℕ) → ((k : ℕ) → weightBy t k ≤ b) → total (stepCost t) u l ≤ length l * b
+unfolding stepCost
+total-bound t b u [] h = omega arith
+total-bound t b u (v ∷ l) h = omega (arith, h (choice t u v), total-bound t b v l h)
 
 module _ {ws : List ℕ} (f : Formed limit ws) (x y : ℕ) (live : isLive (liveVertices (read limit ws)) x ≡ true) where
   into : (u v : ℕ) → hasStep (read limit ws) u v ≡ true → memb v (liveVertices (read limit ws)) ≡ true
@@ -45,6 +51,11 @@ module _ {ws : List ℕ} (f : Formed limit ws) (x y : ℕ) (live : isLive (liveV
   pub best-steps : (l : List ℕ) → Best (StepIn (read limit ws)) (stepCost (read limit ws)) x y l → length l ≤ 255
   best-steps l b =
       omega (arith, best-short (hasStep (read limit ws)) (stepCost (read limit ws)) (liveVertices (read limit ws)) y into x live l b, live-length limit ws, f .shape .vertices-le)
+
+  -- no cost passes 255 times 4,294,967,295, where no weight passes that
+  pub cost-bound : ((k : ℕ) → weightBy (read limit ws) k ≤ 4294967295) → (l : List ℕ) → Best (StepIn (read limit ws)) (stepCost (read limit ws)) x y l
+      → total (stepCost (read limit ws)) x l ≤ 255 * 4294967295
+  cost-bound h l b = omega (arith, best-steps l b, total-bound (read limit ws) 4294967295 x l h)
 
 -- ---- the words: count and cost are those of the entries
 
@@ -81,8 +92,3 @@ module _ (t : Table) (x : ℕ) where
   entry-hyperedge u (v ∷ l) (suc k) h =
       let e : suc k * 2 + 1 ≡ suc (suc (k * 2 + 1)) = omega arith in
       ap (λ (i : ℕ). getD (entriesAfter t u (v ∷ l)) i 0) e ∙ entry-hyperedge v l k (le-of-suc-le-suc h)
-
-  -- no total passes the steps times the greatest cost of a step
-  pub total-bound : (b u : ℕ) (l : List ℕ) → ((i j : ℕ) → stepCost t i j ≤ b) → total (stepCost t) u l ≤ length l * b
-  total-bound b u [] h = omega arith
-  total-bound b u (v ∷ l) h = omega (arith, h u v, total-bound b v l h)

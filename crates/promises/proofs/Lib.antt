@@ -1,4 +1,6 @@
 pub mod Agreement
 pub mod Interface
+pub mod Inner
+pub mod Given
 pub mod Refusals
 pub mod Calls

@@ -16,7 +16,7 @@ use Rattle.layout.specs.declared.Answer.the-variants.{Done}
 use Rattle.layout.specs.Content.{Hyperedge, Table, isLive}
 use Rattle.layout.specs.Layout.{limit, read}
 use Rattle.layout.specs.WellFormed.{wellFormed}
-use Rattle.layout.specs.Answers.{number, Result, result, onFormed, onLive, listed}
+use Rattle.layout.specs.Answers.{Result, result, onFormed, onLive, listed}
 use Rattle.edits.specs.Results.{onSome, onShort, onRoom, onNumber, onNew, onChanged, identical, membersOf, lastNumber}
 use Rattle.lookups.specs.Results.{onSeveral}
 use Rattle.promises.specs.Refusals.{Ground, first, Judged, unformed, noMembers, missing, sameMembers, tooMany, full, spent, tooFew, noRoom, unless}

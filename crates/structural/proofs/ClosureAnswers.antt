@@ -29,11 +29,11 @@ use Rattle.traversal.specs.Traversal.{reachable}
 use Rattle.traversal.proofs.Walks.{reachable-walk, walk-reachable}
 use Rattle.components.specs.Classes.{reached}
 use Rattle.components.proofs.Blocks.{flat-map, blocks-ext}
-use Rattle.closure.specs.Pairs.{apart, secondsOf, rowWords, pairsWords, pairOf}
+use Rattle.closure.specs.Pairs.{apart, secondsOf, rowWords, pairsWords}
 use Rattle.closure.specs.State.{Closure}
 use Rattle.closure.proofs.Closing.{closure-matrix}
 use Rattle.closure.proofs.Pairs.{pairs-ext}
-use Rattle.structural.specs.Closure.{reachesOther, seconds, pairsFrom, closureOf, closureResult}
+use Rattle.structural.specs.Closure.{reachesOther, seconds, pairOf, pairsFrom, closureOf, closureResult}
 use Rattle.structural.proofs.ComponentsAnswers.{reached-ext}
 
 -- the live vertices are the numbers of the records

@@ -1,13 +1,12 @@
 -- The closure: pairs x, y with x not y and y reachable, sorted. Assumes nothing.
 use mathlib.Core.Bool.{Bool, not}
-use mathlib.Core.List.{List}
+use mathlib.Core.List.{List, [], _∷_}
 use Prim.Native.Nat.{ℕ}
 use lib.Dec.{eqb}
 use Rattle.lists.specs.Tests.{_and_}
 use Rattle.lists.specs.Lists.{filter, flat}
 use Rattle.layout.specs.Content.{Table, liveVertices}
 use Rattle.layout.specs.Answers.{Result, listed}
-use Rattle.closure.specs.Pairs.{pairOf}
 use Rattle.traversal.specs.Traversal.{reachable}
 
 -- x is not y, and y is reachable from x
@@ -17,6 +16,10 @@ reachesOther t x y = not (eqb x y) and reachable t x y
 -- the second of each pair whose first is x, ascending
 abbrev pub seconds : Table → ℕ → List ℕ
 seconds t x = filter (reachesOther t x) (liveVertices t)
+
+-- two words each
+abbrev pub pairOf : ℕ → ℕ → List ℕ
+pairOf x y = x ∷ y ∷ []
 
 -- the pairs whose first is x
 abbrev pub pairsFrom : Table → ℕ → List ℕ
