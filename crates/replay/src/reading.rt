@@ -106,6 +106,7 @@ pub struct Extent {
 
 fn fill(s: &[u8], at: usize, list: &mut [u32], n: usize) -> usize
     requires { ⌜ n ≤ length (now list) ⌝ }
+    ensures { λ r. ⌜ (r ≡ afterWords (now (s .entry)) at n) × (now (list .exit) ≡ over (tab (wordNumber (now (s .entry)) at) n) (now (list .entry))) ⌝ }
 {
     let mut here = at;
     let mut k = 0;
@@ -120,7 +121,7 @@ fn fill(s: &[u8], at: usize, list: &mut [u32], n: usize) -> usize
 
 // A list: its length in a byte, then its words, which come to the front of `list`. A longer one than `list` is not read.
 pub fn list(s: &[u8], at: usize, list: &mut [u32]) -> Extent
-    ensures { λ r. ⌜ Counts (r .count) (now (list .exit)) ⌝ }
+    ensures { λ r. ⌜ (r ≡ extentAt (now (s .entry)) at (length (now (list .entry)))) × ((now (list .exit) ≡ over (listAt (now (s .entry)) at (length (now (list .entry)))) (now (list .entry))) × Counts (r .count) (now (list .exit))) ⌝ }
 {
     let n = byte(s, at);
     let count = n.value as usize;
