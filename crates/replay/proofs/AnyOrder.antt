@@ -1,17 +1,13 @@
 -- Laws of lists in any order. Assumes nothing.
-use mathlib.Core.Path.{_≡_, refl, _∙_}
-use mathlib.Core.Bool.{Bool}
+use mathlib.Core.Path.{_≡_, refl}
 use mathlib.Core.List.{List}
-use Prim.Native.Nat.{ℕ, _+_, _-_, _%_, _≤_, _^_, min}
+use Prim.Native.Nat.{ℕ, _+_, _-_, _%_, _≤_, _^_}
 use native.Mathlib.Numerals.{add-one}
 use native.Mathlib.Omega.{arith}
-use lib.ListN.{length, getD}
+use lib.ListN.{getD}
 use borrow.Author.Tests.{eq-eqb, ne-eqb}
-use Rattle.lists.specs.Tests.{_and_}
-use Rattle.replay.specs.declared.judge.Recorded.{Recorded}
-use Rattle.replay.specs.declared.judge.Held.{Held}
 use Rattle.replay.specs.declared.rows.Rows.{Rows}
-use Rattle.replay.specs.Judging.{counted, givenAt, sameReply, judged, countedAt, mixed, start, summedAt, withAnswer, rowsOf, closed, oneWord, rowsAfter, listsAt}
+use Rattle.replay.specs.Judging.{mixed, start, rowsOf, closed, oneWord, rowsAfter}
 
 module _ (r : Rows) where
   pub still-open : (r .left ≡ 0 → ⊥) → r ≡ closed r
