@@ -8,7 +8,7 @@ use native.Mathlib.Omega.{arith}
 use lib.ListN.{length, getD, set, List·getD-eq-default}
 use lib.Seq.{set-out}
 use borrow.Author.Tests.{lt-ltb, le-ltb, not-true, not-false}
-use Rattle.replay.specs.Judging.{oneMore, counted, totalFrom, comparedIn}
+use Rattle.replay.specs.Judging.{oneMore, counted, totalOf}
 
 pub none-there : (ws : List ℕ) (k : ℕ) → length ws ≤ k → 0 ≡ getD ws k 0
 none-there ws k h = sym (List·getD-eq-default ws 0 h)
@@ -36,18 +36,14 @@ module _ (f : ℕ) (same : Bool) (ws : List ℕ) where
 
 -- ---- sums of counts
 
-pub total-none : (ws : List ℕ) (a : ℕ) → 0 ≡ totalFrom ws a 0
-unfolding totalFrom
-total-none ws a = refl
+pub total-none : (ws : List ℕ) → 0 ≡ totalOf ws 0
+unfolding totalOf
+total-none ws = refl
 
-module _ (ws : List ℕ) (a sum k : ℕ) (e : sum ≡ totalFrom ws a k) where
-  pub total-more : (i x y : ℕ) → i ≡ (a + k) % 2 ^ 64 → x ≡ getD ws i 0 → y ≡ (sum + x) % 2 ^ 32 → y ≡ totalFrom ws a (k + 1)
-  unfolding totalFrom
-  total-more i x y f g h = rw (h, g, f, e, add-one k)
+module _ (ws : List ℕ) (sum k : ℕ) (e : sum ≡ totalOf ws k) where
+  pub total-more : (x y : ℕ) → x ≡ getD ws k 0 → y ≡ (sum + x) % 2 ^ 32 → y ≡ totalOf ws (k + 1)
+  unfolding totalOf
+  total-more x y f g = rw (g, f, e, add-one k)
 
-  pub total-all : (n : ℕ) → k ≤ n → n ≤ k → sum ≡ totalFrom ws a n
+  pub total-all : (n : ℕ) → k ≤ n → n ≤ k → sum ≡ totalOf ws n
   total-all n p q = let same : k ≡ n = omega arith in e ∙ rw same
-
-pub all-compared : (ws : List ℕ) (x : ℕ) → x ≡ totalFrom ws 0 (length ws / 2) → x ≡ comparedIn ws
-unfolding comparedIn
-all-compared ws x e = e

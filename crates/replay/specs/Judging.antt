@@ -25,14 +25,14 @@ counted f same tally =
     (cond same (oneMore f tally) (oneMore (length tally / 2 + f) (oneMore f tally)))
     tally
 
--- the sum of the n counts from place a on, high bits dropped
-unfoldable pub totalFrom : List ℕ → ℕ → ℕ → ℕ
-totalFrom tally a zero = 0
-totalFrom tally a (suc n) = (totalFrom tally a n + getD tally ((a + n) % 2 ^ 64) 0) % 2 ^ 32
+-- the sum of the first n counts, high bits dropped
+unfoldable pub totalOf : List ℕ → ℕ → ℕ
+totalOf counts zero = 0
+totalOf counts (suc n) = (totalOf counts n + getD counts n 0) % 2 ^ 32
 
 -- all that were compared: the first half
-unfoldable pub comparedIn : List ℕ → ℕ
-comparedIn tally = totalFrom tally 0 (length tally / 2)
+abbrev pub comparedIn : List ℕ → ℕ
+comparedIn tally = totalOf tally (length tally / 2)
 
 -- ---- an answer
 

@@ -1,23 +1,20 @@
 -- `replay::tally::total` meets its contract. Assumes nothing.
 use mathlib.Core.Path.{_≡_}
 use Prim.Native.Nat.{_≤_, _-_}
-use Rattle.replay.specs.Judging.{totalFrom}
+use Rattle.replay.specs.Judging.{totalOf}
 use Rattle.replay.proofs.Tallied.{total-none, total-more, total-all}
 use borrow.Author.Needs.{needs}
 use Rattle.replay.proofs.tally.total.Statement.{statement}
 use Rattle.replay.proofs.tally.total.Tie as tie
 
 abbrev Inv-loop : tie.InvT-loop
-Inv-loop tally a n sum₀ k₀ sum k = (k ≤ n) × (sum ≡ totalFrom tally a k)
+Inv-loop counts n sum₀ k₀ sum k = (k ≤ n) × (sum ≡ totalOf counts k)
 
 abbrev μ-loop : tie.MeasureT-loop
-μ-loop tally a n sum₀ k₀ sum k = n - k
+μ-loop counts n sum₀ k₀ sum k = n - k
 
 loop-holds : tie.Need-loop-holds Inv-loop μ-loop
 loop-holds c = (search needs, search total-none)
-
-wrapping-add-usize-requires : tie.Need-wrapping-add-usize-requires Inv-loop μ-loop
-wrapping-add-usize-requires c κs = search needs
 
 at-requires : tie.Need-at-requires Inv-loop μ-loop
 at-requires c κs = search needs
@@ -44,7 +41,6 @@ total-spec =
     Inv-loop
     μ-loop
     loop-holds
-    wrapping-add-usize-requires
     at-requires
     wrapping-add-u32-requires
     add-k
