@@ -1,5 +1,9 @@
 // The answer of a pair of vertices. Of the path that is recorded its cost and how many entries it has: another path may be as cheap, and
 // ours has the fewest entries of those. It has to begin at the first vertex, with no hyperedge, and to end at the second.
+ghost use mathlib.Core.Path.{_≡_};
+ghost use Prim.Native.Nat.{_+_, _*_};
+ghost use Rattle.layout.specs.Answers.{number, detail};
+ghost use Rattle.replay.specs.Judging.{judged, countedAt, isWhole, sameCost, begins, sameEnds, samePath, pathAt};
 use crate::judge;
 use crate::reading;
 use crate::tally;
@@ -16,29 +20,58 @@ pub struct Ends {
 }
 
 // Where the vertex of the last of n entries stands.
-fn last_of(n: u32) -> usize {
+fn last_of(n: u32) -> usize
+    ensures { λ r. ⌜ r ≡ 2 * n + 1 ⌝ }
+{
     2 * (n as usize) + 1
 }
 
-fn same_ends(e: Ends, n: u32, out: &[u32]) -> bool {
+// Whether the first entry is the first vertex, with no hyperedge.
+fn begins(e: Ends, out: &[u32]) -> bool
+    ensures { λ r. ⌜ r ≡ begins e (now (out .entry)) ⌝ }
+{
+    judge::word_of(out, 3) == e.from && judge::word_of(out, 4) == 4294967295
+}
+
+fn same_ends(e: Ends, n: u32, out: &[u32]) -> bool
+    ensures { λ r. ⌜ r ≡ sameEnds e n (now (out .entry)) ⌝ }
+{
     if n == 0 {
         return e.entries == 0;
     }
-    judge::word_of(out, 3) == e.from
-        && judge::word_of(out, 4) == 4294967295
-        && judge::word_of(out, last_of(n)) == e.to
+    begins(e, out) && judge::word_of(out, last_of(n)) == e.to
 }
 
-fn words_of(n: u32) -> u64 {
+fn words_of(n: u32) -> u64
+    ensures { λ r. ⌜ r ≡ 3 + 2 * n ⌝ }
+{
     3 + 2 * (n as u64)
 }
 
-fn same_path(r: Reply, e: Ends, out: &[u32]) -> bool {
+// Whether the answer is 0, with all words of n entries.
+fn is_whole(r: Reply, n: u32) -> bool
+    ensures { λ whole. ⌜ whole ≡ isWhole (r .number) (r .detail) n ⌝ }
+{
+    r.number == 0 && r.detail == words_of(n)
+}
+
+fn same_cost(e: Ends, out: &[u32]) -> bool
+    ensures { λ r. ⌜ r ≡ sameCost e (now (out .entry)) ⌝ }
+{
+    judge::word_of(out, 0) == e.low && judge::word_of(out, 1) == e.high
+}
+
+fn same_path(r: Reply, e: Ends, out: &[u32]) -> bool
+    ensures { λ same. ⌜ same ≡ samePath (r .number) (r .detail) e (now (out .entry)) ⌝ }
+{
     let n = judge::word_of(out, 2);
-    if r.number != 0 || r.detail != words_of(n) || n > e.entries {
+    if n > e.entries {
         return false;
     }
-    judge::word_of(out, 0) == e.low && judge::word_of(out, 1) == e.high && same_ends(e, n, out)
+    if !is_whole(r, n) {
+        return false;
+    }
+    same_cost(e, out) && same_ends(e, n, out)
 }
 
 // The detail that is recorded with answer 0 is the count of the entries; the cost's low and high word follow.
@@ -51,7 +84,9 @@ pub fn answer(
     out: &[u32],
     f: usize,
     tally: &mut [u32],
-) -> usize {
+) -> usize
+    ensures { λ r. ⌜ judged r (now (tally .exit)) ≡ countedAt f (pathAt (now (s .entry)) at (number a) (detail a) from to (now (out .entry))) (now (tally .entry)) ⌝ }
+{
     let g = judge::given(s, at);
     let r = layout::reply_of(a);
     if g.number != 0 {

@@ -1,8 +1,11 @@
 // Reading the bytes of the records. A read gives the place after it, and `LOST` where the bytes end too early; reading at `LOST` gives
 // `LOST` again, so that a damaged file is never read past its end.
-ghost use Prim.Native.Nat.{_<_, _≤_};
+ghost use mathlib.Core.Path.{_≡_};
+ghost use Prim.Native.Nat.{_+_, _*_, _<_, _≤_};
 ghost use lib.ListN.{length};
 ghost use Rattle.io.specs.Counts.{Counts};
+ghost use Rattle.lists.specs.Lists.{over, tab};
+ghost use Rattle.replay.specs.Records.{byteAt, twoAt, fourAt, eightAt, wordAt, afterWords, wordNumber, extentAt, listAt};
 
 // The place after a record that is not whole.
 pub const LOST: usize = 18446744073709551615;
@@ -22,13 +25,13 @@ pub struct LongValue {
 }
 
 fn wide(b: u8) -> u32
-    ensures { λ r. ⌜ r < 256 ⌝ }
+    ensures { λ r. ⌜ (r ≡ b) × (r < 256) ⌝ }
 {
     b as u32
 }
 
 pub fn byte(s: &[u8], at: usize) -> Value
-    ensures { λ r. ⌜ r .value < 256 ⌝ }
+    ensures { λ r. ⌜ (r ≡ byteAt (now (s .entry)) at) × (r .value < 256) ⌝ }
 {
     if at < s.len() {
         return Value {
@@ -41,7 +44,7 @@ pub fn byte(s: &[u8], at: usize) -> Value
 
 // Two bytes, the low one first.
 fn two(s: &[u8], at: usize) -> Value
-    ensures { λ r. ⌜ r .value < 65536 ⌝ }
+    ensures { λ r. ⌜ (r ≡ twoAt (now (s .entry)) at) × (r .value < 65536) ⌝ }
 {
     let low = byte(s, at);
     let high = byte(s, low.at);
@@ -52,7 +55,9 @@ fn two(s: &[u8], at: usize) -> Value
 }
 
 // Four bytes, the lowest first.
-pub fn four(s: &[u8], at: usize) -> Value {
+pub fn four(s: &[u8], at: usize) -> Value
+    ensures { λ r. ⌜ r ≡ fourAt (now (s .entry)) at ⌝ }
+{
     let low = two(s, at);
     let high = two(s, low.at);
     Value {
@@ -61,12 +66,16 @@ pub fn four(s: &[u8], at: usize) -> Value {
     }
 }
 
-fn join(low: u32, high: u32) -> u64 {
+fn join(low: u32, high: u32) -> u64
+    ensures { λ r. ⌜ r ≡ low + 4294967296 * high ⌝ }
+{
     (low as u64) | ((high as u64) << 32)
 }
 
 // Eight bytes, the lowest first.
-pub fn eight(s: &[u8], at: usize) -> LongValue {
+pub fn eight(s: &[u8], at: usize) -> LongValue
+    ensures { λ r. ⌜ r ≡ eightAt (now (s .entry)) at ⌝ }
+{
     let low = four(s, at);
     let high = four(s, low.at);
     LongValue {
@@ -76,7 +85,9 @@ pub fn eight(s: &[u8], at: usize) -> LongValue {
 }
 
 // A word: a byte below 254; or 254 and two bytes; or 255 and four.
-pub fn word(s: &[u8], at: usize) -> Value {
+pub fn word(s: &[u8], at: usize) -> Value
+    ensures { λ r. ⌜ r ≡ wordAt (now (s .entry)) at ⌝ }
+{
     let first = byte(s, at);
     if first.value < 254 {
         return first;
@@ -95,6 +106,7 @@ pub struct Extent {
 
 fn fill(s: &[u8], at: usize, list: &mut [u32], n: usize) -> usize
     requires { ⌜ n ≤ length (now list) ⌝ }
+    ensures { λ r. ⌜ (r ≡ afterWords (now (s .entry)) at n) × (now (list .exit) ≡ over (tab (wordNumber (now (s .entry)) at) n) (now (list .entry))) ⌝ }
 {
     let mut here = at;
     let mut k = 0;
@@ -109,7 +121,7 @@ fn fill(s: &[u8], at: usize, list: &mut [u32], n: usize) -> usize
 
 // A list: its length in a byte, then its words, which come to the front of `list`. A longer one than `list` is not read.
 pub fn list(s: &[u8], at: usize, list: &mut [u32]) -> Extent
-    ensures { λ r. ⌜ Counts (r .count) (now (list .exit)) ⌝ }
+    ensures { λ r. ⌜ (r ≡ extentAt (now (s .entry)) at (length (now (list .entry)))) × ((now (list .exit) ≡ over (listAt (now (s .entry)) at (length (now (list .entry)))) (now (list .entry))) × Counts (r .count) (now (list .exit))) ⌝ }
 {
     let n = byte(s, at);
     let count = n.value as usize;

@@ -1,5 +1,8 @@
 // Lists in any order: each as its length and its members. The recorded sum is the sum of the lists' own sums, high bits dropped, so that
 // the order of the lists does not count.
+ghost use mathlib.Core.Path.{_≡_};
+ghost use Rattle.layout.specs.Answers.{number, detail};
+ghost use Rattle.replay.specs.Judging.{judged, countedAt, closed, oneWord, rowsAfter, listsAt};
 use crate::judge;
 use crate::tally;
 use layout::Answer;
@@ -11,7 +14,9 @@ pub struct Rows {
     pub total: u64,
 }
 
-fn closed(r: Rows) -> Rows {
+fn closed(r: Rows) -> Rows
+    ensures { λ next. ⌜ next ≡ closed r ⌝ }
+{
     if r.left != 0 {
         return r;
     }
@@ -22,7 +27,9 @@ fn closed(r: Rows) -> Rows {
     }
 }
 
-fn more(r: Rows, word: u32) -> Rows {
+fn more(r: Rows, word: u32) -> Rows
+    ensures { λ next. ⌜ next ≡ oneWord r word ⌝ }
+{
     let row = judge::mix(r.row, word);
     if r.left == 0 {
         return closed(Rows {
@@ -38,7 +45,9 @@ fn more(r: Rows, word: u32) -> Rows {
     })
 }
 
-fn sum(out: &[u32], n: usize) -> u64 {
+fn sum(out: &[u32], n: usize) -> u64
+    ensures { λ r. ⌜ r ≡ rowsAfter (now (out .entry)) n .total ⌝ }
+{
     let mut r = Rows {
         left: 0,
         row: judge::START,
@@ -52,7 +61,9 @@ fn sum(out: &[u32], n: usize) -> u64 {
 }
 
 // An answer with the lists that it wrote.
-pub fn listing(s: &[u8], at: usize, a: Answer, out: &[u32], f: usize, tally: &mut [u32]) -> usize {
+pub fn listing(s: &[u8], at: usize, a: Answer, out: &[u32], f: usize, tally: &mut [u32]) -> usize
+    ensures { λ r. ⌜ judged r (now (tally .exit)) ≡ countedAt f (listsAt (now (s .entry)) at (number a) (detail a) (now (out .entry))) (now (tally .entry)) ⌝ }
+{
     let g = judge::given(s, at);
     let same = judge::same_reply(layout::reply_of(a), g);
     if g.number != 0 {
@@ -64,6 +75,6 @@ pub fn listing(s: &[u8], at: usize, a: Answer, out: &[u32], f: usize, tally: &mu
         g.at,
         sum(out, judge::at_most(g.detail as usize, out.len())),
     );
-    tally::count(tally, f, same && h.same);
+    tally::count(tally, f, judge::both(same, h.same));
     h.at
 }

@@ -1,4 +1,6 @@
 // The edits that build the tables, and the end of the records.
+ghost use mathlib.Core.Path.{_≡_};
+ghost use Rattle.replay.specs.Replayed.{left, vertexAdded, hyperedgeAdded, hyperedgeUpdated, vertexRemoved, hyperedgeRemoved, tableSummed, endAt, recordAt};
 use crate::judge;
 use crate::reading;
 use crate::tally;
@@ -12,12 +14,16 @@ use layout::HyperedgeIndex;
 use layout::VertexIndex;
 use libc::STDOUT_FILENO;
 
-fn vertex_added(s: &[u8], at: usize, t: &mut [u32], tally: &mut [u32]) -> usize {
+fn vertex_added(s: &[u8], at: usize, t: &mut [u32], tally: &mut [u32]) -> usize
+    ensures { λ r. ⌜ left r (now (t .exit)) (now (tally .exit)) ≡ vertexAdded (now (s .entry)) at (now (t .entry)) (now (tally .entry)) ⌝ }
+{
     let w = reading::word(s, at);
     judge::answer(s, w.at, add_vertex(t, w.value), 0, tally)
 }
 
-fn hyperedge_added(s: &[u8], at: usize, t: &mut [u32], tally: &mut [u32]) -> usize {
+fn hyperedge_added(s: &[u8], at: usize, t: &mut [u32], tally: &mut [u32]) -> usize
+    ensures { λ r. ⌜ left r (now (t .exit)) (now (tally .exit)) ≡ hyperedgeAdded (now (s .entry)) at (now (t .entry)) (now (tally .entry)) ⌝ }
+{
     let mut members = [0u32; 32];
     let l = reading::list(s, at, &mut members);
     let n = l.count;
@@ -26,7 +32,9 @@ fn hyperedge_added(s: &[u8], at: usize, t: &mut [u32], tally: &mut [u32]) -> usi
     judge::answer(s, w.at, a, 1, tally)
 }
 
-fn hyperedge_updated(s: &[u8], at: usize, t: &mut [u32], tally: &mut [u32]) -> usize {
+fn hyperedge_updated(s: &[u8], at: usize, t: &mut [u32], tally: &mut [u32]) -> usize
+    ensures { λ r. ⌜ left r (now (t .exit)) (now (tally .exit)) ≡ hyperedgeUpdated (now (s .entry)) at (now (t .entry)) (now (tally .entry)) ⌝ }
+{
     let mut members = [0u32; 32];
     let e = reading::word(s, at);
     let l = reading::list(s, e.at, &mut members);
@@ -35,12 +43,16 @@ fn hyperedge_updated(s: &[u8], at: usize, t: &mut [u32], tally: &mut [u32]) -> u
     judge::answer(s, l.at, a, 2, tally)
 }
 
-fn vertex_removed(s: &[u8], at: usize, t: &mut [u32], tally: &mut [u32]) -> usize {
+fn vertex_removed(s: &[u8], at: usize, t: &mut [u32], tally: &mut [u32]) -> usize
+    ensures { λ r. ⌜ left r (now (t .exit)) (now (tally .exit)) ≡ vertexRemoved (now (s .entry)) at (now (t .entry)) (now (tally .entry)) ⌝ }
+{
     let v = reading::word(s, at);
     judge::answer(s, v.at, remove_vertex(t, VertexIndex(v.value)), 3, tally)
 }
 
-fn hyperedge_removed(s: &[u8], at: usize, t: &mut [u32], tally: &mut [u32]) -> usize {
+fn hyperedge_removed(s: &[u8], at: usize, t: &mut [u32], tally: &mut [u32]) -> usize
+    ensures { λ r. ⌜ left r (now (t .exit)) (now (tally .exit)) ≡ hyperedgeRemoved (now (s .entry)) at (now (t .entry)) (now (tally .entry)) ⌝ }
+{
     let e = reading::word(s, at);
     judge::answer(
         s,
@@ -52,28 +64,40 @@ fn hyperedge_removed(s: &[u8], at: usize, t: &mut [u32], tally: &mut [u32]) -> u
 }
 
 // All words of the table, by their sum.
-fn table(s: &[u8], at: usize, t: &[u32], tally: &mut [u32]) -> usize {
+fn table(s: &[u8], at: usize, t: &[u32], tally: &mut [u32]) -> usize
+    ensures { λ r. ⌜ left r (now (t .entry)) (now (tally .exit)) ≡ tableSummed (now (s .entry)) at (now (t .entry)) (now (tally .entry)) ⌝ }
+{
     let x = reading::eight(s, at);
     tally::count(tally, 6, x.value == judge::sum(t, t.len()));
     x.at
 }
 
 // The last record says how many answers there are and the sum of all bytes before that sum, and nothing follows it.
-fn end(s: &[u8], at: usize, tally: &[u32]) -> usize {
+fn end(s: &[u8], at: usize, tally: &[u32]) -> usize
+    ensures { λ r. ⌜ r ≡ endAt (now (s .entry)) at (now (tally .entry)) ⌝ }
+{
     let n = reading::four(s, at);
     let x = judge::summed(
         s,
         n.at,
         judge::sum_of_bytes(s, judge::at_most(n.at, s.len())),
     );
-    if x.same && x.at == s.len() && n.value == tally::compared(tally) {
-        return reading::WHOLE;
+    if !x.same {
+        return reading::LOST;
     }
-    reading::LOST
+    if x.at != s.len() {
+        return reading::LOST;
+    }
+    if n.value != tally::compared(tally) {
+        return reading::LOST;
+    }
+    reading::WHOLE
 }
 
 // A record that builds a table, or the last one.
-pub fn record(s: &[u8], kind: u32, at: usize, t: &mut [u32], tally: &mut [u32]) -> usize {
+pub fn record(s: &[u8], kind: u32, at: usize, t: &mut [u32], tally: &mut [u32]) -> usize
+    ensures { λ r. ⌜ left r (now (t .exit)) (now (tally .exit)) ≡ recordAt (now (s .entry)) kind at (now (t .entry)) (now (tally .entry)) ⌝ }
+{
     match kind {
         1 => vertex_added(s, at, t, tally),
         2 => hyperedge_added(s, at, t, tally),

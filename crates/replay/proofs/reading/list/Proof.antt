@@ -1,16 +1,8 @@
--- `replay::reading::list` meets its contract: its count is that of a prefix.
-use mathlib.Core.Path.{_≡_, sym}
-use mathlib.Core.List.{List}
-use Prim.Native.Nat.{ℕ, _≤_}
-use native.Mathlib.Omega.{arith}
-use lib.ListN.{length, take}
-use lib.Seq.{length-take-le}
+-- `replay::reading::list` meets its contract. Assumes nothing.
+use Rattle.replay.proofs.Bytes.{list-too-long, list-unread, list-extent, list-words, count-kept}
 use borrow.Author.Needs.{needs}
 use Rattle.replay.proofs.reading.list.Statement.{statement}
 use Rattle.replay.proofs.reading.list.Tie as tie
-
-prefix-count : (n : ℕ) (xs ys : List ℕ) → n ≤ length xs → length ys ≡ length xs → n ≡ length (take n ys)
-prefix-count n xs ys fits same = sym (length-take-le n ys (omega arith))
 
 byte-requires : tie.Need-byte-requires
 byte-requires c κs = search needs
@@ -19,7 +11,7 @@ cast-count : tie.Need-cast-count
 cast-count c = search needs
 
 returns : tie.Need-returns
-returns c = search needs
+returns c = (search list-too-long, (search list-unread, search needs))
 
 fill-requires : tie.Need-fill-requires
 fill-requires c κs = search needs
@@ -28,7 +20,7 @@ same-length : tie.Need-same-length
 same-length c = search needs
 
 returns-2 : tie.Need-returns-2
-returns-2 c = (search needs, search prefix-count)
+returns-2 c = (search list-extent, (search list-words, (search needs, search count-kept)))
 
 pub list-spec : {M : Type 1} → statement M
 list-spec =

@@ -1,20 +1,20 @@
--- `replay::tally::total` is safe and ends.
+-- `replay::tally::total` meets its contract. Assumes nothing.
+use mathlib.Core.Path.{_≡_}
 use Prim.Native.Nat.{_≤_, _-_}
+use Rattle.replay.specs.Judging.{totalOf}
+use Rattle.replay.proofs.Tallied.{total-none, total-more, total-all}
 use borrow.Author.Needs.{needs}
 use Rattle.replay.proofs.tally.total.Statement.{statement}
 use Rattle.replay.proofs.tally.total.Tie as tie
 
 abbrev Inv-loop : tie.InvT-loop
-Inv-loop tally a n sum₀ k₀ sum k = k ≤ n
+Inv-loop counts n sum₀ k₀ sum k = (k ≤ n) × (sum ≡ totalOf counts k)
 
 abbrev μ-loop : tie.MeasureT-loop
-μ-loop tally a n sum₀ k₀ sum k = n - k
+μ-loop counts n sum₀ k₀ sum k = n - k
 
 loop-holds : tie.Need-loop-holds Inv-loop μ-loop
-loop-holds c = search needs
-
-wrapping-add-usize-requires : tie.Need-wrapping-add-usize-requires Inv-loop μ-loop
-wrapping-add-usize-requires c κs = search needs
+loop-holds c = (search needs, search total-none)
 
 at-requires : tie.Need-at-requires Inv-loop μ-loop
 at-requires c κs = search needs
@@ -29,10 +29,10 @@ loop-less : tie.Need-loop-less Inv-loop μ-loop
 loop-less c = search needs
 
 loop-again : tie.Need-loop-again Inv-loop μ-loop
-loop-again c = search needs
+loop-again c = (search needs, search total-more)
 
 returns : tie.Need-returns Inv-loop μ-loop
-returns c = search needs
+returns c = search total-all
 
 pub total-spec : {M : Type 1} → statement M
 total-spec =
@@ -41,7 +41,6 @@ total-spec =
     Inv-loop
     μ-loop
     loop-holds
-    wrapping-add-usize-requires
     at-requires
     wrapping-add-u32-requires
     add-k

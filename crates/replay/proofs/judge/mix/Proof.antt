@@ -1,0 +1,15 @@
+-- `replay::judge::mix` meets its contract. Assumes nothing.
+use Rattle.replay.specs.Judging.{mixed}
+use borrow.Author.Needs.{needs}
+use Rattle.replay.proofs.judge.mix.Statement.{statement}
+use Rattle.replay.proofs.judge.mix.Tie as tie
+
+wrapping-add-u64-requires : tie.Need-wrapping-add-u64-requires
+wrapping-add-u64-requires c κs = search needs
+
+returns : tie.Need-returns
+unfolding mixed
+returns c = rw (c .wrapping-add-u64 .ensures)
+
+pub mix-spec : {M : Type 1} → statement M
+mix-spec = tie.close (tie.spec wrapping-add-u64-requires returns)
