@@ -7,14 +7,14 @@ use native.Mathlib.Omega.{arith}
 use lib.ListN.{getD}
 use borrow.Author.Tests.{eq-eqb, ne-eqb}
 use Rattle.replay.specs.declared.rows.Rows.{Rows}
-use Rattle.replay.specs.Judging.{mixed, start, rowsOf, closed, oneWord, rowsAfter}
+use Rattle.replay.specs.Judging.{mixed, sumStart, rowsOf, closed, oneWord, rowsAfter}
 
 module _ (r : Rows) where
   pub still-open : (r .left ≡ 0 → ⊥) → r ≡ closed r
   unfolding closed
   still-open h = rw (ne-eqb (r .left) 0 h)
 
-  pub now-closed : (x : ℕ) → r .left ≡ 0 → x ≡ (r .total + r .row) % 2 ^ 64 → rowsOf 0 start x ≡ closed r
+  pub now-closed : (x : ℕ) → r .left ≡ 0 → x ≡ (r .total + r .row) % 2 ^ 64 → rowsOf 0 sumStart x ≡ closed r
   unfolding closed
   now-closed x h e = rw (e, eq-eqb (r .left) 0 h)
 
@@ -27,7 +27,7 @@ module _ (r : Rows) where
     unfolding oneWord
     a-member h f = rw (f, e, ne-eqb (r .left) 0 h)
 
-pub rows-none : (ws : List ℕ) → rowsOf 0 start 0 ≡ rowsAfter ws 0
+pub rows-none : (ws : List ℕ) → rowsOf 0 sumStart 0 ≡ rowsAfter ws 0
 unfolding rowsAfter
 rows-none ws = refl
 

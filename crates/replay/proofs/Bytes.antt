@@ -14,41 +14,41 @@ use Rattle.lists.proofs.Tab.{length-tab, tab-suc}
 use Rattle.replay.specs.declared.reading.Value.{Value}
 use Rattle.replay.specs.declared.reading.LongValue.{LongValue}
 use Rattle.replay.specs.declared.reading.Extent.{Extent}
-use Rattle.replay.specs.Records.{lost, valueOf, byteAt, twoAt, fourAt, eightAt, wordAt, afterWords, wordNumber, extentAt, listAt}
+use Rattle.replay.specs.Records.{lost, valueOf, byteRead, twoRead, fourRead, eightRead, wordRead, afterWords, wordNumber, extentAt, listAt}
 
 module _ (s : List ℕ) (p : ℕ) where
-  pub byte-there : (v : ℕ) → v ≡ getD s p 0 → p < length s → valueOf v (p + 1) ≡ byteAt s p
-  unfolding byteAt
+  pub byte-there : (v : ℕ) → v ≡ getD s p 0 → p < length s → valueOf v (p + 1) ≡ byteRead s p
+  unfolding byteRead
   byte-there v e h = rw (e, lt-ltb p (length s) h)
 
-  pub byte-lost : length s ≤ p → valueOf 0 lost ≡ byteAt s p
-  unfolding byteAt
+  pub byte-lost : length s ≤ p → valueOf 0 lost ≡ byteRead s p
+  unfolding byteRead
   byte-lost h = rw (le-ltb p (length s) h)
 
-  pub two-bytes : (low high : Value) → low ≡ byteAt s p → high ≡ byteAt s (low .at) → valueOf (low .value + 256 * high .value) (high .at) ≡ twoAt s p
-  unfolding twoAt
+  pub two-bytes : (low high : Value) → low ≡ byteRead s p → high ≡ byteRead s (low .at) → valueOf (low .value + 256 * high .value) (high .at) ≡ twoRead s p
+  unfolding twoRead
   two-bytes low high e h = rw (h, e)
 
-  pub four-bytes : (low high : Value) → low ≡ twoAt s p → high ≡ twoAt s (low .at) → valueOf (low .value + 65536 * high .value) (high .at) ≡ fourAt s p
-  unfolding fourAt
+  pub four-bytes : (low high : Value) → low ≡ twoRead s p → high ≡ twoRead s (low .at) → valueOf (low .value + 65536 * high .value) (high .at) ≡ fourRead s p
+  unfolding fourRead
   four-bytes low high e h = rw (h, e)
 
-  pub eight-bytes : (low high : Value) (n : ℕ) → low ≡ fourAt s p → high ≡ fourAt s (low .at) → n ≡ low .value + 4294967296 * high .value
-      → _≡_ {A = LongValue} (record { value = n; at = high .at }) (eightAt s p)
-  unfolding eightAt
+  pub eight-bytes : (low high : Value) (n : ℕ) → low ≡ fourRead s p → high ≡ fourRead s (low .at) → n ≡ low .value + 4294967296 * high .value
+      → _≡_ {A = LongValue} (record { value = n; at = high .at }) (eightRead s p)
+  unfolding eightRead
   eight-bytes low high n e h j = rw (j, h, e)
 
-  module _ (first : Value) (e : first ≡ byteAt s p) where
-    pub word-short : first .value < 254 → first ≡ wordAt s p
-    unfolding wordAt
+  module _ (first : Value) (e : first ≡ byteRead s p) where
+    pub word-short : first .value < 254 → first ≡ wordRead s p
+    unfolding wordRead
     word-short h = rw (← e, lt-ltb (first .value) 254 h)
 
-    pub word-of-two : (w : Value) → w ≡ twoAt s (first .at) → 254 ≤ first .value → first .value ≡ 254 → w ≡ wordAt s p
-    unfolding wordAt
+    pub word-of-two : (w : Value) → w ≡ twoRead s (first .at) → 254 ≤ first .value → first .value ≡ 254 → w ≡ wordRead s p
+    unfolding wordRead
     word-of-two w f h k = f ∙ rw (← e, le-ltb (first .value) 254 h, eq-eqb (first .value) 254 k)
 
-    pub word-of-four : (w : Value) → w ≡ fourAt s (first .at) → 254 ≤ first .value → (first .value ≡ 254 → ⊥) → w ≡ wordAt s p
-    unfolding wordAt
+    pub word-of-four : (w : Value) → w ≡ fourRead s (first .at) → 254 ≤ first .value → (first .value ≡ 254 → ⊥) → w ≡ wordRead s p
+    unfolding wordRead
     word-of-four w f h k = f ∙ rw (← e, le-ltb (first .value) 254 h, ne-eqb (first .value) 254 k)
 
 -- two halves side by side
@@ -68,11 +68,11 @@ unfolding tab over
 filled-none s p d = refl
 
 module _ (s : List ℕ) (p : ℕ) (here k : ℕ) (e : here ≡ afterWords s p k) where
-  pub after-more : (w : Value) → w ≡ wordAt s here → w .at ≡ afterWords s p (k + 1)
+  pub after-more : (w : Value) → w ≡ wordRead s here → w .at ≡ afterWords s p (k + 1)
   unfolding afterWords
   after-more w f = rw (f, e, add-one k)
 
-  pub filled-more : (d list : List ℕ) (n : ℕ) (w : Value) → w ≡ wordAt s here → list ≡ over (tab (wordNumber s p) k) d → k < n → n ≤ length list
+  pub filled-more : (d list : List ℕ) (n : ℕ) (w : Value) → w ≡ wordRead s here → list ≡ over (tab (wordNumber s p) k) d → k < n → n ≤ length list
       → length list ≡ length d → set list k (w .value) ≡ over (tab (wordNumber s p) (k + 1)) d
   unfolding wordNumber
   filled-more d list n w f g h room kept =
@@ -90,7 +90,7 @@ filled-all s p k n d list e a b = let same : k ≡ n = omega arith in e ∙ rw s
 pub count-kept : (n : ℕ) (xs ys : List ℕ) → n ≤ length xs → length ys ≡ length xs → n ≡ length (take n ys)
 count-kept n xs ys fits same = sym (length-take-le n ys (omega arith))
 
-module _ (s : List ℕ) (p : ℕ) (d : List ℕ) (n : Value) (e : n ≡ byteAt s p) where
+module _ (s : List ℕ) (p : ℕ) (d : List ℕ) (n : Value) (e : n ≡ byteRead s p) where
   module _ (h : length d < n .value) where
     pub list-too-long : _≡_ {A = Extent} (record { count = 0; at = lost }) (extentAt s p (length d))
     unfolding extentAt

@@ -10,8 +10,8 @@ use Rattle.lists.specs.Tests.{_and_}
 use Rattle.replay.specs.declared.reading.Value.{Value}
 use Rattle.replay.specs.declared.judge.Recorded.{Recorded}
 use Rattle.replay.specs.declared.path.Ends.{Ends}
-use Rattle.replay.specs.Records.{wordAt, afterWords, wordNumber}
-use Rattle.replay.specs.Judging.{counted, givenAt, sameReply, judged, countedAt, isWhole, sameCost, begins, sameEnds, samePath, endsAt, pathAt}
+use Rattle.replay.specs.Records.{wordRead, afterWords, wordNumber}
+use Rattle.replay.specs.Judging.{countedIn, givenAt, sameReply, afterCount, countedAt, isWhole, sameCost, begins, sameEnds, samePath, endsAt, pathAt}
 use Rattle.replay.proofs.Judging.{answer-judged}
 
 module _ (number detail n : ℕ) where
@@ -76,14 +76,14 @@ module _ (e : Ends) (ws : List ℕ) where
 -- g is what is recorded, and the answer's number and detail are r₀ and r₁
 module _ (s : List ℕ) (p number detail f : ℕ) (ws : List ℕ) (from to : ℕ) (out : List ℕ) (g : Recorded) (e : g ≡ givenAt s p) (r₀ r₁ : ℕ) (n : r₀ ≡ number) (d : r₁ ≡ detail)
   where
-    pub path-judged : (low high : Value) (same : Bool) (left : List ℕ) → g .number ≡ 0 → low ≡ wordAt s (g .at) → high ≡ wordAt s (low .at)
-        → same ≡ samePath r₀ r₁ (record { from = from; to = to; low = low .value; high = high .value; entries = g .detail }) out → left ≡ counted f same ws
-        → judged (high .at) left ≡ countedAt f (pathAt s p number detail from to out) ws
+    pub path-judged : (low high : Value) (same : Bool) (left : List ℕ) → g .number ≡ 0 → low ≡ wordRead s (g .at) → high ≡ wordRead s (low .at)
+        → same ≡ samePath r₀ r₁ (record { from = from; to = to; low = low .value; high = high .value; entries = g .detail }) out → left ≡ countedIn f same ws
+        → afterCount (high .at) left ≡ countedAt f (pathAt s p number detail from to out) ws
     unfolding countedAt pathAt endsAt afterWords wordNumber
     path-judged low high same left z i j q l = rw (l, q, n, d, j, i, ← e, eq-eqb (g .number) 0 z)
 
-    pub no-path-judged : (same : Bool) (left : List ℕ) → (g .number ≡ 0 → ⊥) → same ≡ sameReply r₀ r₁ g → left ≡ counted f same ws
-        → judged (g .at) left ≡ countedAt f (pathAt s p number detail from to out) ws
+    pub no-path-judged : (same : Bool) (left : List ℕ) → (g .number ≡ 0 → ⊥) → same ≡ sameReply r₀ r₁ g → left ≡ countedIn f same ws
+        → afterCount (g .at) left ≡ countedAt f (pathAt s p number detail from to out) ws
     unfolding pathAt
     no-path-judged same left z q l =
         rw (← e, ne-eqb (g .number) 0 z) (answer-judged s p number detail f ws g e r₀ r₁ n d same q left l)

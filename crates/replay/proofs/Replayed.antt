@@ -17,66 +17,66 @@ use Rattle.replay.specs.declared.reading.Value.{Value}
 use Rattle.replay.specs.declared.reading.LongValue.{LongValue}
 use Rattle.replay.specs.declared.reading.Extent.{Extent}
 use Rattle.replay.specs.declared.judge.Held.{Held}
-use Rattle.replay.specs.Records.{lost, whole, fourAt, eightAt, wordAt, wordNumber, byteAt, extentAt, listAt}
-use Rattle.replay.specs.Judging.{Judged, counted, comparedIn, answerAt, judged, countedAt, sumOf, summedAt}
-use Rattle.replay.specs.Replayed.{Left, left, compared, edited, room, vertexAdded, hyperedgeAdded, hyperedgeUpdated, vertexRemoved, hyperedgeRemoved, tableSummed, endAt, recordAt}
+use Rattle.replay.specs.Records.{lost, whole, fourRead, eightRead, wordRead, wordNumber, byteRead, extentAt, listAt}
+use Rattle.replay.specs.Judging.{AfterCount, countedIn, comparedIn, answerAt, afterCount, countedAt, sumOf, summedAt}
+use Rattle.replay.specs.Replayed.{LeftBy, leftBy, compared, edited, room, vertexAdded, hyperedgeAdded, hyperedgeUpdated, vertexRemoved, hyperedgeRemoved, tableSummed, endAt, recordAt}
 
 -- the words of a list, taken from the room that they were read into
 list-taken : (s : List ℕ) (p : ℕ) (d : List ℕ) → take (extentAt s p (length d) .count) (over (listAt s p (length d)) d) ≡ listAt s p (length d)
 unfolding over listAt
-list-taken s p d = take-at (listAt s p (length d)) _ (extentAt s p (length d) .count) (length-tab (wordNumber s (byteAt s p .at)) _)
+list-taken s p d = take-at (listAt s p (length d)) _ (extentAt s p (length d) .count) (length-tab (wordNumber s (byteRead s p .at)) _)
 
 module _ (s : List ℕ) (p : ℕ) (t tally : List ℕ) (r : ℕ) (t′ tally′ : List ℕ) (a : Answer) where
-  edited-as : (q f : ℕ) (x : Result) → result a t′ ≡ x → judged r tally′ ≡ countedAt f (answerAt s q (number a) (detail a)) tally → left r t′ tally′ ≡ edited s q f x tally
+  edited-as : (q f : ℕ) (x : Result) → result a t′ ≡ x → afterCount r tally′ ≡ countedAt f (answerAt s q (number a) (detail a)) tally → leftBy r t′ tally′ ≡ edited s q f x tally
   unfolding edited compared countedAt
-  edited-as q f x e j = rw (← e) (ap (λ (k : Judged). left (k .at) t′ (k .tally)) j)
+  edited-as q f x e j = rw (← e) (ap (λ (k : AfterCount). leftBy (k .at) t′ (k .tally)) j)
 
-  pub cleared : result a t′ ≡ clearResult t → judged r tally′ ≡ countedAt 5 (answerAt s p (number a) (detail a)) tally → left r t′ tally′ ≡ edited s p 5 (clearResult t) tally
+  pub cleared : result a t′ ≡ clearResult t → afterCount r tally′ ≡ countedAt 5 (answerAt s p (number a) (detail a)) tally → leftBy r t′ tally′ ≡ edited s p 5 (clearResult t) tally
   cleared = edited-as p 5 (clearResult t)
 
-  module _ (w : Value) (i : w ≡ wordAt s p) where
-    pub vertex-added : result a t′ ≡ onFormed t t (addVertexResult (w .value) t) → judged r tally′ ≡ countedAt 0 (answerAt s (w .at) (number a) (detail a)) tally
-        → left r t′ tally′ ≡ vertexAdded s p t tally
+  module _ (w : Value) (i : w ≡ wordRead s p) where
+    pub vertex-added : result a t′ ≡ onFormed t t (addVertexResult (w .value) t) → afterCount r tally′ ≡ countedAt 0 (answerAt s (w .at) (number a) (detail a)) tally
+        → leftBy r t′ tally′ ≡ vertexAdded s p t tally
     unfolding vertexAdded
     vertex-added e j = rw (← i) (edited-as (w .at) 0 _ e j)
 
-    pub vertex-removed : result a t′ ≡ onFormed t t (removeVertexResult (w .value) t) → judged r tally′ ≡ countedAt 3 (answerAt s (w .at) (number a) (detail a)) tally
-        → left r t′ tally′ ≡ vertexRemoved s p t tally
+    pub vertex-removed : result a t′ ≡ onFormed t t (removeVertexResult (w .value) t) → afterCount r tally′ ≡ countedAt 3 (answerAt s (w .at) (number a) (detail a)) tally
+        → leftBy r t′ tally′ ≡ vertexRemoved s p t tally
     unfolding vertexRemoved
     vertex-removed e j = rw (← i) (edited-as (w .at) 3 _ e j)
 
-    pub hyperedge-removed : result a t′ ≡ onFormed t t (removeHyperedgeResult (w .value) t) → judged r tally′ ≡ countedAt 4 (answerAt s (w .at) (number a) (detail a)) tally
-        → left r t′ tally′ ≡ hyperedgeRemoved s p t tally
+    pub hyperedge-removed : result a t′ ≡ onFormed t t (removeHyperedgeResult (w .value) t) → afterCount r tally′ ≡ countedAt 4 (answerAt s (w .at) (number a) (detail a)) tally
+        → leftBy r t′ tally′ ≡ hyperedgeRemoved s p t tally
     unfolding hyperedgeRemoved
     hyperedge-removed e j = rw (← i) (edited-as (w .at) 4 _ e j)
 
     pub hyperedge-updated : (d m : List ℕ) (l : Extent) → l ≡ extentAt s (w .at) (length d) → m ≡ over (listAt s (w .at) (length d)) d → length d ≡ room
-        → result a t′ ≡ onFormed t t (updateResult (w .value) (take (l .count) m) t) → judged r tally′ ≡ countedAt 2 (answerAt s (l .at) (number a) (detail a)) tally
-        → left r t′ tally′ ≡ hyperedgeUpdated s p t tally
+        → result a t′ ≡ onFormed t t (updateResult (w .value) (take (l .count) m) t) → afterCount r tally′ ≡ countedAt 2 (answerAt s (l .at) (number a) (detail a)) tally
+        → leftBy r t′ tally′ ≡ hyperedgeUpdated s p t tally
     unfolding hyperedgeUpdated
     hyperedge-updated d m l f g n e j =
         let words : take (l .count) m ≡ listAt s (w .at) room = rw (g, f, list-taken s (w .at) d, n) in
         rw (← i, ← n, ← f, n, ← words) (edited-as (l .at) 2 _ e j)
 
-  pub hyperedge-added : (d m : List ℕ) (l : Extent) (w : Value) → l ≡ extentAt s p (length d) → m ≡ over (listAt s p (length d)) d → length d ≡ room → w ≡ wordAt s (l .at)
-      → result a t′ ≡ onFormed t t (addHyperedgeResult (take (l .count) m) (w .value) t) → judged r tally′ ≡ countedAt 1 (answerAt s (w .at) (number a) (detail a)) tally
-      → left r t′ tally′ ≡ hyperedgeAdded s p t tally
+  pub hyperedge-added : (d m : List ℕ) (l : Extent) (w : Value) → l ≡ extentAt s p (length d) → m ≡ over (listAt s p (length d)) d → length d ≡ room → w ≡ wordRead s (l .at)
+      → result a t′ ≡ onFormed t t (addHyperedgeResult (take (l .count) m) (w .value) t) → afterCount r tally′ ≡ countedAt 1 (answerAt s (w .at) (number a) (detail a)) tally
+      → leftBy r t′ tally′ ≡ hyperedgeAdded s p t tally
   unfolding hyperedgeAdded
   hyperedge-added d m l w f g n i e j =
       let words : take (l .count) m ≡ listAt s p room = rw (g, f, list-taken s p d, n) in
       let extent : l ≡ extentAt s p room = rw n at f in
       rw (← words, ← extent, ← i) (edited-as (w .at) 1 _ e j)
 
-pub table-summed : (s : List ℕ) (p : ℕ) (t tally tally′ : List ℕ) (x : LongValue) (sum : ℕ) → x ≡ eightAt s p → sum ≡ sumOf t (length t)
-    → tally′ ≡ counted 6 (eqb (x .value) sum) tally → left (x .at) t tally′ ≡ tableSummed s p t tally
+pub table-summed : (s : List ℕ) (p : ℕ) (t tally tally′ : List ℕ) (x : LongValue) (sum : ℕ) → x ≡ eightRead s p → sum ≡ sumOf t (length t)
+    → tally′ ≡ countedIn 6 (eqb (x .value) sum) tally → leftBy (x .at) t tally′ ≡ tableSummed s p t tally
 unfolding tableSummed compared summedAt
 table-summed s p t tally tally′ x sum e f l = rw (l, f, e)
 
 -- ---- the last record
 
-module _ (s : List ℕ) (p : ℕ) (tally : List ℕ) (n : Value) (m sum : ℕ) (x : Held) (e : n ≡ fourAt s p) (f : m ≡ min (n .at) (length s)) (g : sum ≡ sumOf s m) (h : x ≡ summedAt s (n .at) sum)
+module _ (s : List ℕ) (p : ℕ) (tally : List ℕ) (n : Value) (m sum : ℕ) (x : Held) (e : n ≡ fourRead s p) (f : m ≡ min (n .at) (length s)) (g : sum ≡ sumOf s m) (h : x ≡ summedAt s (n .at) sum)
   where
-    here : summedAt s (fourAt s p .at) (sumOf s (min (fourAt s p .at) (length s))) ≡ x
+    here : summedAt s (fourRead s p .at) (sumOf s (min (fourRead s p .at) (length s))) ≡ x
     here = rw (h, g, f, e)
 
     pub end-differs : not (x .same) ≡ true → lost ≡ endAt s p tally
@@ -99,7 +99,7 @@ module _ (s : List ℕ) (p : ℕ) (tally : List ℕ) (n : Value) (m sum : ℕ) (
 
 -- ---- by its kind
 
-module _ (s : List ℕ) (kind p : ℕ) (t tally : List ℕ) (l : Left) where
+module _ (s : List ℕ) (kind p : ℕ) (t tally : List ℕ) (l : LeftBy) where
   pub kind-1 : kind ≡ 1 → l ≡ vertexAdded s p t tally → l ≡ recordAt s kind p t tally
   unfolding recordAt
   kind-1 k e = e ∙ rw k
@@ -128,12 +128,12 @@ module _ (s : List ℕ) (kind p : ℕ) (t tally : List ℕ) (l : Left) where
   unfolding recordAt
   kind-7 k e = e ∙ rw k
 
-pub kind-255 : (s : List ℕ) (kind p : ℕ) (t tally : List ℕ) (r : ℕ) → kind ≡ 255 → r ≡ endAt s p tally → left r t tally ≡ recordAt s kind p t tally
+pub kind-255 : (s : List ℕ) (kind p : ℕ) (t tally : List ℕ) (r : ℕ) → kind ≡ 255 → r ≡ endAt s p tally → leftBy r t tally ≡ recordAt s kind p t tally
 unfolding recordAt
 kind-255 s kind p t tally r k e = rw (e, k)
 
 pub no-kind : (s : List ℕ) (kind p : ℕ) (t tally : List ℕ) → (kind ≡ 1 → ⊥) → (kind ≡ 2 → ⊥) → (kind ≡ 3 → ⊥) → (kind ≡ 4 → ⊥) → (kind ≡ 5 → ⊥) → (kind ≡ 6 → ⊥) → (kind ≡ 7 → ⊥) → (kind ≡ 255 → ⊥)
-    → left lost t tally ≡ recordAt s kind p t tally
+    → leftBy lost t tally ≡ recordAt s kind p t tally
 unfolding recordAt
 no-kind s kind p t tally a b c d e f g h =
     rw (ne-eqb kind 1 a, ne-eqb kind 2 b, ne-eqb kind 3 c, ne-eqb kind 4 d, ne-eqb kind 5 e, ne-eqb kind 6 f, ne-eqb kind 7 g, ne-eqb kind 255 h)

@@ -2,15 +2,15 @@
 use mathlib.Core.Bool.{Bool, cond}
 use mathlib.Core.List.{List}
 use Prim.Native.Nat.{ℕ, zero, suc, _+_, _*_, _-_, _/_, _%_, _^_, min}
-use lib.Bits.{bitXor}
 use lib.Dec.{eqb, leb, ltb}
 use lib.ListN.{length, getD, set}
 use Rattle.lists.specs.Tests.{_and_, every}
+use Rattle.walk.specs.Walk.{xorshift}
 use Rattle.replay.specs.declared.judge.Recorded.{Recorded}
 use Rattle.replay.specs.declared.judge.Held.{Held}
 use Rattle.replay.specs.declared.rows.Rows.{Rows}
 use Rattle.replay.specs.declared.path.Ends.{Ends}
-use Rattle.replay.specs.Records.{byteAt, eightAt, wordAt, afterWords, wordNumber}
+use Rattle.replay.specs.Records.{byteRead, eightRead, wordRead, afterWords, wordNumber}
 
 -- ---- the tally
 
@@ -19,82 +19,77 @@ unfoldable pub oneMore : ℕ → List ℕ → List ℕ
 oneMore i tally = set tally i ((getD tally i 0 + 1) % 2 ^ 32)
 
 -- an answer of the function of place f is counted in the first half of the tally, and one that differs in the second as well
-unfoldable pub counted : ℕ → Bool → List ℕ → List ℕ
-counted f same tally =
+unfoldable pub countedIn : ℕ → Bool → List ℕ → List ℕ
+countedIn f same tally =
     cond (ltb f (length tally / 2))
     (cond same (oneMore f tally) (oneMore (length tally / 2 + f) (oneMore f tally)))
     tally
 
 -- the sum of the first n counts, high bits dropped
-unfoldable pub totalOf : List ℕ → ℕ → ℕ
-totalOf counts zero = 0
-totalOf counts (suc n) = (totalOf counts n + getD counts n 0) % 2 ^ 32
+unfoldable pub totalCount : List ℕ → ℕ → ℕ
+totalCount counts zero = 0
+totalCount counts (suc n) = (totalCount counts n + getD counts n 0) % 2 ^ 32
 
 -- all that were compared: the first half
 abbrev pub comparedIn : List ℕ → ℕ
-comparedIn tally = totalOf tally (length tally / 2)
+comparedIn tally = totalCount tally (length tally / 2)
 
 -- ---- an answer
 
+-- a recorded answer, and the place after it
 abbrev pub recorded : ℕ → ℕ → ℕ → Recorded
 recorded number detail at = record { number = number; detail = detail; at = at }
 
 -- a byte below 240 is answer 0 with that detail; another one is 240 more than the answer's number, and the detail follows as a word
 unfoldable pub givenAt : List ℕ → ℕ → Recorded
 givenAt s p =
-    cond (ltb (byteAt s p .value) 240)
-    (recorded 0 (byteAt s p .value) (byteAt s p .at))
-    (recorded (byteAt s p .value - 240) (wordAt s (byteAt s p .at) .value) (wordAt s (byteAt s p .at) .at))
+    cond (ltb (byteRead s p .value) 240)
+    (recorded 0 (byteRead s p .value) (byteRead s p .at))
+    (recorded (byteRead s p .value - 240) (wordRead s (byteRead s p .at) .value) (wordRead s (byteRead s p .at) .at))
 
 -- the number and the detail are the recorded ones
 unfoldable pub sameReply : ℕ → ℕ → Recorded → Bool
 sameReply number detail g = eqb number (g .number) and eqb detail (g .detail)
 
-abbrev pub held : Bool → ℕ → Held
-held same at = record { same = same; at = at }
+-- whether what is recorded is what is there, and the place after it
+abbrev pub heldAs : Bool → ℕ → Held
+heldAs same at = record { same = same; at = at }
 
 -- an answer without a listing
 unfoldable pub answerAt : List ℕ → ℕ → ℕ → ℕ → Held
-answerAt s p number detail = held (sameReply number detail (givenAt s p)) (givenAt s p .at)
+answerAt s p number detail = heldAs (sameReply number detail (givenAt s p)) (givenAt s p .at)
 
 -- what a comparison leaves: the place after what is recorded, and the tally
-pub record Judged : Type 0 where
+pub record AfterCount : Type 0 where
   pub at : ℕ
   pub tally : List ℕ
 
-abbrev pub judged : ℕ → List ℕ → Judged
-judged at tally = record { at = at; tally = tally }
+-- a place and a tally
+abbrev pub afterCount : ℕ → List ℕ → AfterCount
+afterCount at tally = record { at = at; tally = tally }
 
-unfoldable pub countedAt : ℕ → Held → List ℕ → Judged
-countedAt f h tally = judged (h .at) (counted f (h .same) tally)
+-- a comparison, counted for the function of place f
+unfoldable pub countedAt : ℕ → Held → List ℕ → AfterCount
+countedAt f h tally = afterCount (h .at) (countedIn f (h .same) tally)
 
 -- ---- sums of words
 
 -- the sum before the first word
-abbrev pub start : ℕ
-start = 11400714819323198485
+abbrev pub sumStart : ℕ
+sumStart = 11400714819323198485
 
-abbrev pub leftThirteen : ℕ → ℕ
-leftThirteen x = bitXor x (x * 2 ^ 13 % 2 ^ 64)
-
-abbrev pub rightSeven : ℕ → ℕ
-rightSeven x = bitXor x (x / 2 ^ 7)
-
-abbrev pub leftSeventeen : ℕ → ℕ
-leftSeventeen x = bitXor x (x * 2 ^ 17 % 2 ^ 64)
-
--- the sum after one word more: the word is added, and the sum xored with itself shifted left 13, then right 7, then left 17, high bits dropped
+-- the sum after one word more: the word is added, high bits dropped, and the sum goes through `xorshift64`
 unfoldable pub mixed : ℕ → ℕ → ℕ
-mixed sum word = leftSeventeen (rightSeven (leftThirteen ((sum + word) % 2 ^ 64)))
+mixed sum word = xorshift ((sum + word) % 2 ^ 64)
 
 -- the sum of the first n words; 0 stands past the end
 unfoldable pub sumOf : List ℕ → ℕ → ℕ
-sumOf ws zero = start
+sumOf ws zero = sumStart
 sumOf ws (suc n) = mixed (sumOf ws n) (getD ws n 0)
 
 -- eight bytes are the sum
 unfoldable pub summedAt : List ℕ → ℕ → ℕ → Held
-summedAt s p sum = held (eqb (eightAt s p .value) sum) (eightAt s p .at)
+summedAt s p sum = heldAs (eqb (eightRead s p .value) sum) (eightRead s p .at)
 
 -- ---- a listing
 
@@ -102,8 +97,9 @@ summedAt s p sum = held (eqb (eightAt s p .value) sum) (eightAt s p .at)
 unfoldable pub sameWord : List ℕ → ℕ → List ℕ → ℕ → Bool
 sameWord s p ws k = eqb (wordNumber s p k) (getD ws k 0)
 
+-- n words of a listing, word by word
 unfoldable pub wordsAt : List ℕ → ℕ → List ℕ → ℕ → Held
-wordsAt s p ws n = held (every (sameWord s p ws) n) (afterWords s p n)
+wordsAt s p ws n = heldAs (every (sameWord s p ws) n) (afterWords s p n)
 
 -- n words of a listing, by their sum where there are more than 16
 unfoldable pub listedAt : List ℕ → ℕ → List ℕ → ℕ → Held
@@ -113,7 +109,7 @@ listedAt s p ws n = cond (ltb 16 n) (summedAt s p (sumOf ws (min n (length ws)))
 unfoldable pub withAnswer : List ℕ → ℕ → ℕ → ℕ → Held → Held
 withAnswer s p number detail h =
     cond (eqb (givenAt s p .number) 0)
-    (held (sameReply number detail (givenAt s p) and h .same) (h .at))
+    (heldAs (sameReply number detail (givenAt s p) and h .same) (h .at))
     (answerAt s p number detail)
 
 -- the detail that is recorded with answer 0 is how many words follow
@@ -123,12 +119,13 @@ listingAt s p number detail ws =
 
 -- ---- lists in any order
 
+-- how many members of the list at hand are to come, its sum so far, and the sum of the lists before it
 abbrev pub rowsOf : ℕ → ℕ → ℕ → Rows
 rowsOf left row total = record { left = left; row = row; total = total }
 
 -- a list that has all its members is added to the sum of those before it
 unfoldable pub closed : Rows → Rows
-closed r = cond (eqb (r .left) 0) (rowsOf 0 start ((r .total + r .row) % 2 ^ 64)) r
+closed r = cond (eqb (r .left) 0) (rowsOf 0 sumStart ((r .total + r .row) % 2 ^ 64)) r
 
 -- one word more: the length of a list, or a member of the list at hand
 unfoldable pub oneWord : Rows → ℕ → Rows
@@ -136,12 +133,12 @@ oneWord r word = closed (rowsOf (cond (eqb (r .left) 0) word (r .left - 1)) (mix
 
 -- after the first n words
 unfoldable pub rowsAfter : List ℕ → ℕ → Rows
-rowsAfter ws zero = rowsOf 0 start 0
+rowsAfter ws zero = rowsOf 0 sumStart 0
 rowsAfter ws (suc n) = oneWord (rowsAfter ws n) (getD ws n 0)
 
 -- an answer with lists: the detail that is recorded with answer 0 is how many words they have, and their sum follows
-unfoldable pub listsAt : List ℕ → ℕ → ℕ → ℕ → List ℕ → Held
-listsAt s p number detail ws =
+unfoldable pub listsRead : List ℕ → ℕ → ℕ → ℕ → List ℕ → Held
+listsRead s p number detail ws =
     withAnswer s p number detail
     (summedAt s (givenAt s p .at) (rowsAfter ws (min (givenAt s p .detail) (length ws)) .total))
 
@@ -183,8 +180,9 @@ endsAt s p from to = record {
   entries = givenAt s p .detail;
 }
 
+-- an answer of a path: with answer 0 its cost and its ends, with another the answer alone
 unfoldable pub pathAt : List ℕ → ℕ → ℕ → ℕ → ℕ → ℕ → List ℕ → Held
 pathAt s p number detail from to ws =
     cond (eqb (givenAt s p .number) 0)
-    (held (samePath number detail (endsAt s p from to) ws) (afterWords s (givenAt s p .at) 2))
+    (heldAs (samePath number detail (endsAt s p from to) ws) (afterWords s (givenAt s p .at) 2))
     (answerAt s p number detail)

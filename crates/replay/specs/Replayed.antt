@@ -8,24 +8,25 @@ use Rattle.lists.specs.Tests.{_and_}
 use Rattle.layout.specs.Answers.{Result, onFormed}
 use Rattle.edits.specs.Results.{addVertexResult, addHyperedgeResult, updateResult, removeVertexResult, removeHyperedgeResult, clearResult}
 use Rattle.replay.specs.declared.judge.Held.{Held}
-use Rattle.replay.specs.Records.{lost, whole, fourAt, wordAt, extentAt, listAt}
-use Rattle.replay.specs.Judging.{counted, comparedIn, answerAt, sumOf, summedAt}
+use Rattle.replay.specs.Records.{lost, whole, fourRead, wordRead, extentAt, listAt}
+use Rattle.replay.specs.Judging.{countedIn, comparedIn, answerAt, sumOf, summedAt}
 
 -- the place after the record, the table and the tally
-pub record Left : Type 0 where
+pub record LeftBy : Type 0 where
   pub at : ℕ
   pub table : List ℕ
   pub tally : List ℕ
 
-abbrev pub left : ℕ → List ℕ → List ℕ → Left
-left at table tally = record { at = at; table = table; tally = tally }
+-- a place, a table and a tally
+abbrev pub leftBy : ℕ → List ℕ → List ℕ → LeftBy
+leftBy at table tally = record { at = at; table = table; tally = tally }
 
 -- the table as it is then, and the comparison counted for the function of place f
-unfoldable pub compared : ℕ → Held → List ℕ → List ℕ → Left
-compared f h table tally = left (h .at) table (counted f (h .same) tally)
+unfoldable pub compared : ℕ → Held → List ℕ → List ℕ → LeftBy
+compared f h table tally = leftBy (h .at) table (countedIn f (h .same) tally)
 
 -- an edit, whose answer is recorded at place p
-unfoldable pub edited : List ℕ → ℕ → ℕ → Result → List ℕ → Left
+unfoldable pub edited : List ℕ → ℕ → ℕ → Result → List ℕ → LeftBy
 edited s p f x tally = compared f (answerAt s p (x .number) (x .detail)) (x .lent) tally
 
 -- a list has no more members than this
@@ -33,43 +34,43 @@ abbrev pub room : ℕ
 room = 32
 
 -- the vertex's weight, and the answer
-unfoldable pub vertexAdded : List ℕ → ℕ → List ℕ → List ℕ → Left
-vertexAdded s p t tally = edited s (wordAt s p .at) 0 (onFormed t t (addVertexResult (wordAt s p .value) t)) tally
+unfoldable pub vertexAdded : List ℕ → ℕ → List ℕ → List ℕ → LeftBy
+vertexAdded s p t tally = edited s (wordRead s p .at) 0 (onFormed t t (addVertexResult (wordRead s p .value) t)) tally
 
 -- the members, the weight, and the answer
-unfoldable pub hyperedgeAdded : List ℕ → ℕ → List ℕ → List ℕ → Left
+unfoldable pub hyperedgeAdded : List ℕ → ℕ → List ℕ → List ℕ → LeftBy
 hyperedgeAdded s p t tally =
-    edited s (wordAt s (extentAt s p room .at) .at) 1
-    (onFormed t t (addHyperedgeResult (listAt s p room) (wordAt s (extentAt s p room .at) .value) t))
+    edited s (wordRead s (extentAt s p room .at) .at) 1
+    (onFormed t t (addHyperedgeResult (listAt s p room) (wordRead s (extentAt s p room .at) .value) t))
     tally
 
 -- the hyperedge, its new members, and the answer
-unfoldable pub hyperedgeUpdated : List ℕ → ℕ → List ℕ → List ℕ → Left
+unfoldable pub hyperedgeUpdated : List ℕ → ℕ → List ℕ → List ℕ → LeftBy
 hyperedgeUpdated s p t tally =
-    edited s (extentAt s (wordAt s p .at) room .at) 2
-    (onFormed t t (updateResult (wordAt s p .value) (listAt s (wordAt s p .at) room) t))
+    edited s (extentAt s (wordRead s p .at) room .at) 2
+    (onFormed t t (updateResult (wordRead s p .value) (listAt s (wordRead s p .at) room) t))
     tally
 
 -- the vertex, and the answer
-unfoldable pub vertexRemoved : List ℕ → ℕ → List ℕ → List ℕ → Left
-vertexRemoved s p t tally = edited s (wordAt s p .at) 3 (onFormed t t (removeVertexResult (wordAt s p .value) t)) tally
+unfoldable pub vertexRemoved : List ℕ → ℕ → List ℕ → List ℕ → LeftBy
+vertexRemoved s p t tally = edited s (wordRead s p .at) 3 (onFormed t t (removeVertexResult (wordRead s p .value) t)) tally
 
 -- the hyperedge, and the answer
-unfoldable pub hyperedgeRemoved : List ℕ → ℕ → List ℕ → List ℕ → Left
-hyperedgeRemoved s p t tally = edited s (wordAt s p .at) 4 (onFormed t t (removeHyperedgeResult (wordAt s p .value) t)) tally
+unfoldable pub hyperedgeRemoved : List ℕ → ℕ → List ℕ → List ℕ → LeftBy
+hyperedgeRemoved s p t tally = edited s (wordRead s p .at) 4 (onFormed t t (removeHyperedgeResult (wordRead s p .value) t)) tally
 
 -- the sum of all words of the table
-unfoldable pub tableSummed : List ℕ → ℕ → List ℕ → List ℕ → Left
+unfoldable pub tableSummed : List ℕ → ℕ → List ℕ → List ℕ → LeftBy
 tableSummed s p t tally = compared 6 (summedAt s p (sumOf t (length t))) t tally
 
 -- how many answers there are and the sum of all bytes before that sum, and nothing follows it
 unfoldable pub endAt : List ℕ → ℕ → List ℕ → ℕ
 endAt s p tally =
-    let end = summedAt s (fourAt s p .at) (sumOf s (min (fourAt s p .at) (length s))) in
-    cond (end .same and (eqb (end .at) (length s) and eqb (fourAt s p .value) (comparedIn tally))) whole lost
+    let end = summedAt s (fourRead s p .at) (sumOf s (min (fourRead s p .at) (length s))) in
+    cond (end .same and (eqb (end .at) (length s) and eqb (fourRead s p .value) (comparedIn tally))) whole lost
 
 -- the record of a kind, which stands at place p
-unfoldable pub recordAt : List ℕ → ℕ → ℕ → List ℕ → List ℕ → Left
+unfoldable pub recordAt : List ℕ → ℕ → ℕ → List ℕ → List ℕ → LeftBy
 recordAt s kind p t tally =
     cond (eqb kind 1) (vertexAdded s p t tally)
     (cond (eqb kind 2) (hyperedgeAdded s p t tally)
@@ -78,5 +79,5 @@ recordAt s kind p t tally =
     (cond (eqb kind 5) (hyperedgeRemoved s p t tally)
     (cond (eqb kind 6) (edited s p 5 (clearResult t) tally)
     (cond (eqb kind 7) (tableSummed s p t tally)
-    (cond (eqb kind 255) (left (endAt s p tally) t tally)
-    (left lost t tally))))))))
+    (cond (eqb kind 255) (leftBy (endAt s p tally) t tally)
+    (leftBy lost t tally))))))))

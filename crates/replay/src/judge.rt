@@ -4,7 +4,7 @@ ghost use Prim.Native.Nat.{min};
 ghost use lib.ListN.{getD};
 ghost use Rattle.lists.specs.Tests.{_and_};
 ghost use Rattle.layout.specs.Answers.{number, detail};
-ghost use Rattle.replay.specs.Judging.{givenAt, sameReply, answerAt, judged, countedAt, mixed, sumOf, summedAt, wordsAt, listedAt, listingAt};
+ghost use Rattle.replay.specs.Judging.{givenAt, sameReply, answerAt, afterCount, countedAt, mixed, sumOf, summedAt, wordsAt, listedAt, listingAt};
 use crate::reading;
 use crate::tally;
 use layout::Answer;
@@ -48,7 +48,7 @@ pub fn same_reply(r: Reply, g: Recorded) -> bool
 
 // An answer without a listing.
 pub fn answer(s: &[u8], at: usize, a: Answer, f: usize, tally: &mut [u32]) -> usize
-    ensures { λ r. ⌜ judged r (now (tally .exit)) ≡ countedAt f (answerAt (now (s .entry)) at (number a) (detail a)) (now (tally .entry)) ⌝ }
+    ensures { λ r. ⌜ afterCount r (now (tally .exit)) ≡ countedAt f (answerAt (now (s .entry)) at (number a) (detail a)) (now (tally .entry)) ⌝ }
 {
     let g = given(s, at);
     tally::count(tally, f, same_reply(layout::reply_of(a), g));
@@ -161,7 +161,7 @@ pub fn both(a: bool, b: bool) -> bool
 
 // An answer with the listing that it wrote.
 pub fn listing(s: &[u8], at: usize, a: Answer, out: &[u32], f: usize, tally: &mut [u32]) -> usize
-    ensures { λ r. ⌜ judged r (now (tally .exit)) ≡ countedAt f (listingAt (now (s .entry)) at (number a) (detail a) (now (out .entry))) (now (tally .entry)) ⌝ }
+    ensures { λ r. ⌜ afterCount r (now (tally .exit)) ≡ countedAt f (listingAt (now (s .entry)) at (number a) (detail a) (now (out .entry))) (now (tally .entry)) ⌝ }
 {
     let g = given(s, at);
     let same = same_reply(layout::reply_of(a), g);

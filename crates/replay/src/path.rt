@@ -3,7 +3,7 @@
 ghost use mathlib.Core.Path.{_≡_};
 ghost use Prim.Native.Nat.{_+_, _*_};
 ghost use Rattle.layout.specs.Answers.{number, detail};
-ghost use Rattle.replay.specs.Judging.{judged, countedAt, isWhole, sameCost, begins, sameEnds, samePath, pathAt};
+ghost use Rattle.replay.specs.Judging.{afterCount, countedAt, isWhole, sameCost, begins, sameEnds, samePath, pathAt};
 use crate::judge;
 use crate::reading;
 use crate::tally;
@@ -85,7 +85,7 @@ pub fn answer(
     f: usize,
     tally: &mut [u32],
 ) -> usize
-    ensures { λ r. ⌜ judged r (now (tally .exit)) ≡ countedAt f (pathAt (now (s .entry)) at (number a) (detail a) from to (now (out .entry))) (now (tally .entry)) ⌝ }
+    ensures { λ r. ⌜ afterCount r (now (tally .exit)) ≡ countedAt f (pathAt (now (s .entry)) at (number a) (detail a) from to (now (out .entry))) (now (tally .entry)) ⌝ }
 {
     let g = judge::given(s, at);
     let r = layout::reply_of(a);

@@ -5,7 +5,7 @@ ghost use Prim.Native.Nat.{_+_, _*_, _<_, _≤_};
 ghost use lib.ListN.{length};
 ghost use Rattle.io.specs.Counts.{Counts};
 ghost use Rattle.lists.specs.Lists.{over, tab};
-ghost use Rattle.replay.specs.Records.{byteAt, twoAt, fourAt, eightAt, wordAt, afterWords, wordNumber, extentAt, listAt};
+ghost use Rattle.replay.specs.Records.{byteRead, twoRead, fourRead, eightRead, wordRead, afterWords, wordNumber, extentAt, listAt};
 
 // The place after a record that is not whole.
 pub const LOST: usize = 18446744073709551615;
@@ -31,7 +31,7 @@ fn wide(b: u8) -> u32
 }
 
 pub fn byte(s: &[u8], at: usize) -> Value
-    ensures { λ r. ⌜ (r ≡ byteAt (now (s .entry)) at) × (r .value < 256) ⌝ }
+    ensures { λ r. ⌜ (r ≡ byteRead (now (s .entry)) at) × (r .value < 256) ⌝ }
 {
     if at < s.len() {
         return Value {
@@ -44,7 +44,7 @@ pub fn byte(s: &[u8], at: usize) -> Value
 
 // Two bytes, the low one first.
 fn two(s: &[u8], at: usize) -> Value
-    ensures { λ r. ⌜ (r ≡ twoAt (now (s .entry)) at) × (r .value < 65536) ⌝ }
+    ensures { λ r. ⌜ (r ≡ twoRead (now (s .entry)) at) × (r .value < 65536) ⌝ }
 {
     let low = byte(s, at);
     let high = byte(s, low.at);
@@ -56,7 +56,7 @@ fn two(s: &[u8], at: usize) -> Value
 
 // Four bytes, the lowest first.
 pub fn four(s: &[u8], at: usize) -> Value
-    ensures { λ r. ⌜ r ≡ fourAt (now (s .entry)) at ⌝ }
+    ensures { λ r. ⌜ r ≡ fourRead (now (s .entry)) at ⌝ }
 {
     let low = two(s, at);
     let high = two(s, low.at);
@@ -74,7 +74,7 @@ fn join(low: u32, high: u32) -> u64
 
 // Eight bytes, the lowest first.
 pub fn eight(s: &[u8], at: usize) -> LongValue
-    ensures { λ r. ⌜ r ≡ eightAt (now (s .entry)) at ⌝ }
+    ensures { λ r. ⌜ r ≡ eightRead (now (s .entry)) at ⌝ }
 {
     let low = four(s, at);
     let high = four(s, low.at);
@@ -86,7 +86,7 @@ pub fn eight(s: &[u8], at: usize) -> LongValue
 
 // A word: a byte below 254; or 254 and two bytes; or 255 and four.
 pub fn word(s: &[u8], at: usize) -> Value
-    ensures { λ r. ⌜ r ≡ wordAt (now (s .entry)) at ⌝ }
+    ensures { λ r. ⌜ r ≡ wordRead (now (s .entry)) at ⌝ }
 {
     let first = byte(s, at);
     if first.value < 254 {

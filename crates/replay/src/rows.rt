@@ -2,7 +2,7 @@
 // the order of the lists does not count.
 ghost use mathlib.Core.Path.{_≡_};
 ghost use Rattle.layout.specs.Answers.{number, detail};
-ghost use Rattle.replay.specs.Judging.{judged, countedAt, closed, oneWord, rowsAfter, listsAt};
+ghost use Rattle.replay.specs.Judging.{afterCount, countedAt, closed, oneWord, rowsAfter, listsRead};
 use crate::judge;
 use crate::tally;
 use layout::Answer;
@@ -62,7 +62,7 @@ fn sum(out: &[u32], n: usize) -> u64
 
 // An answer with the lists that it wrote.
 pub fn listing(s: &[u8], at: usize, a: Answer, out: &[u32], f: usize, tally: &mut [u32]) -> usize
-    ensures { λ r. ⌜ judged r (now (tally .exit)) ≡ countedAt f (listsAt (now (s .entry)) at (number a) (detail a) (now (out .entry))) (now (tally .entry)) ⌝ }
+    ensures { λ r. ⌜ afterCount r (now (tally .exit)) ≡ countedAt f (listsRead (now (s .entry)) at (number a) (detail a) (now (out .entry))) (now (tally .entry)) ⌝ }
 {
     let g = judge::given(s, at);
     let same = judge::same_reply(layout::reply_of(a), g);

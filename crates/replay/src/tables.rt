@@ -1,6 +1,6 @@
 // The edits that build the tables, and the end of the records.
 ghost use mathlib.Core.Path.{_≡_};
-ghost use Rattle.replay.specs.Replayed.{left, vertexAdded, hyperedgeAdded, hyperedgeUpdated, vertexRemoved, hyperedgeRemoved, tableSummed, endAt, recordAt};
+ghost use Rattle.replay.specs.Replayed.{leftBy, vertexAdded, hyperedgeAdded, hyperedgeUpdated, vertexRemoved, hyperedgeRemoved, tableSummed, endAt, recordAt};
 use crate::judge;
 use crate::reading;
 use crate::tally;
@@ -15,14 +15,14 @@ use layout::VertexIndex;
 use libc::STDOUT_FILENO;
 
 fn vertex_added(s: &[u8], at: usize, t: &mut [u32], tally: &mut [u32]) -> usize
-    ensures { λ r. ⌜ left r (now (t .exit)) (now (tally .exit)) ≡ vertexAdded (now (s .entry)) at (now (t .entry)) (now (tally .entry)) ⌝ }
+    ensures { λ r. ⌜ leftBy r (now (t .exit)) (now (tally .exit)) ≡ vertexAdded (now (s .entry)) at (now (t .entry)) (now (tally .entry)) ⌝ }
 {
     let w = reading::word(s, at);
     judge::answer(s, w.at, add_vertex(t, w.value), 0, tally)
 }
 
 fn hyperedge_added(s: &[u8], at: usize, t: &mut [u32], tally: &mut [u32]) -> usize
-    ensures { λ r. ⌜ left r (now (t .exit)) (now (tally .exit)) ≡ hyperedgeAdded (now (s .entry)) at (now (t .entry)) (now (tally .entry)) ⌝ }
+    ensures { λ r. ⌜ leftBy r (now (t .exit)) (now (tally .exit)) ≡ hyperedgeAdded (now (s .entry)) at (now (t .entry)) (now (tally .entry)) ⌝ }
 {
     let mut members = [0u32; 32];
     let l = reading::list(s, at, &mut members);
@@ -33,7 +33,7 @@ fn hyperedge_added(s: &[u8], at: usize, t: &mut [u32], tally: &mut [u32]) -> usi
 }
 
 fn hyperedge_updated(s: &[u8], at: usize, t: &mut [u32], tally: &mut [u32]) -> usize
-    ensures { λ r. ⌜ left r (now (t .exit)) (now (tally .exit)) ≡ hyperedgeUpdated (now (s .entry)) at (now (t .entry)) (now (tally .entry)) ⌝ }
+    ensures { λ r. ⌜ leftBy r (now (t .exit)) (now (tally .exit)) ≡ hyperedgeUpdated (now (s .entry)) at (now (t .entry)) (now (tally .entry)) ⌝ }
 {
     let mut members = [0u32; 32];
     let e = reading::word(s, at);
@@ -44,14 +44,14 @@ fn hyperedge_updated(s: &[u8], at: usize, t: &mut [u32], tally: &mut [u32]) -> u
 }
 
 fn vertex_removed(s: &[u8], at: usize, t: &mut [u32], tally: &mut [u32]) -> usize
-    ensures { λ r. ⌜ left r (now (t .exit)) (now (tally .exit)) ≡ vertexRemoved (now (s .entry)) at (now (t .entry)) (now (tally .entry)) ⌝ }
+    ensures { λ r. ⌜ leftBy r (now (t .exit)) (now (tally .exit)) ≡ vertexRemoved (now (s .entry)) at (now (t .entry)) (now (tally .entry)) ⌝ }
 {
     let v = reading::word(s, at);
     judge::answer(s, v.at, remove_vertex(t, VertexIndex(v.value)), 3, tally)
 }
 
 fn hyperedge_removed(s: &[u8], at: usize, t: &mut [u32], tally: &mut [u32]) -> usize
-    ensures { λ r. ⌜ left r (now (t .exit)) (now (tally .exit)) ≡ hyperedgeRemoved (now (s .entry)) at (now (t .entry)) (now (tally .entry)) ⌝ }
+    ensures { λ r. ⌜ leftBy r (now (t .exit)) (now (tally .exit)) ≡ hyperedgeRemoved (now (s .entry)) at (now (t .entry)) (now (tally .entry)) ⌝ }
 {
     let e = reading::word(s, at);
     judge::answer(
@@ -65,7 +65,7 @@ fn hyperedge_removed(s: &[u8], at: usize, t: &mut [u32], tally: &mut [u32]) -> u
 
 // All words of the table, by their sum.
 fn table(s: &[u8], at: usize, t: &[u32], tally: &mut [u32]) -> usize
-    ensures { λ r. ⌜ left r (now (t .entry)) (now (tally .exit)) ≡ tableSummed (now (s .entry)) at (now (t .entry)) (now (tally .entry)) ⌝ }
+    ensures { λ r. ⌜ leftBy r (now (t .entry)) (now (tally .exit)) ≡ tableSummed (now (s .entry)) at (now (t .entry)) (now (tally .entry)) ⌝ }
 {
     let x = reading::eight(s, at);
     tally::count(tally, 6, x.value == judge::sum(t, t.len()));
@@ -96,7 +96,7 @@ fn end(s: &[u8], at: usize, tally: &[u32]) -> usize
 
 // A record that builds a table, or the last one.
 pub fn record(s: &[u8], kind: u32, at: usize, t: &mut [u32], tally: &mut [u32]) -> usize
-    ensures { λ r. ⌜ left r (now (t .exit)) (now (tally .exit)) ≡ recordAt (now (s .entry)) kind at (now (t .entry)) (now (tally .entry)) ⌝ }
+    ensures { λ r. ⌜ leftBy r (now (t .exit)) (now (tally .exit)) ≡ recordAt (now (s .entry)) kind at (now (t .entry)) (now (tally .entry)) ⌝ }
 {
     match kind {
         1 => vertex_added(s, at, t, tally),

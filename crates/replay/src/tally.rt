@@ -2,7 +2,7 @@
 // those that differ, each by the function's place.
 ghost use mathlib.Core.Path.{_≡_};
 ghost use lib.ListN.{getD};
-ghost use Rattle.replay.specs.Judging.{oneMore, counted, totalOf, comparedIn};
+ghost use Rattle.replay.specs.Judging.{oneMore, countedIn, totalCount, comparedIn};
 use libc::STDOUT_FILENO;
 
 fn more(tally: &mut [u32], i: usize)
@@ -14,7 +14,7 @@ fn more(tally: &mut [u32], i: usize)
 }
 
 pub fn count(tally: &mut [u32], f: usize, same: bool)
-    ensures { λ _. ⌜ now (tally .exit) ≡ counted f same (now (tally .entry)) ⌝ }
+    ensures { λ _. ⌜ now (tally .exit) ≡ countedIn f same (now (tally .entry)) ⌝ }
 {
     let half = tally.len() / 2;
     if f < half {
@@ -27,7 +27,7 @@ pub fn count(tally: &mut [u32], f: usize, same: bool)
 
 // The sum of the first n counts.
 fn total(counts: &[u32], n: usize) -> u32
-    ensures { λ r. ⌜ r ≡ totalOf (now (counts .entry)) n ⌝ }
+    ensures { λ r. ⌜ r ≡ totalCount (now (counts .entry)) n ⌝ }
 {
     let mut sum: u32 = 0;
     for k in 0..n {

@@ -1,4 +1,5 @@
 -- `replay::judge::mix` meets its contract. Assumes nothing.
+use Rattle.walk.specs.Walk.{xorshift}
 use Rattle.replay.specs.Judging.{mixed}
 use borrow.Author.Needs.{needs}
 use Rattle.replay.proofs.judge.mix.Statement.{statement}
@@ -8,7 +9,7 @@ wrapping-add-u64-requires : tie.Need-wrapping-add-u64-requires
 wrapping-add-u64-requires c κs = search needs
 
 returns : tie.Need-returns
-unfolding mixed
+unfolding mixed xorshift
 returns c = rw (c .wrapping-add-u64 .ensures)
 
 pub mix-spec : {M : Type 1} → statement M

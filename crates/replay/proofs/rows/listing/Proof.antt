@@ -1,5 +1,5 @@
 -- `replay::rows::listing` meets its contract. Assumes nothing.
-use Rattle.replay.specs.Judging.{listsAt}
+use Rattle.replay.specs.Judging.{listsRead}
 use Rattle.replay.proofs.Judging.{lists-judged, refusal-judged}
 use borrow.Author.Needs.{needs}
 use Rattle.replay.proofs.rows.listing.Statement.{statement}
@@ -21,7 +21,7 @@ same-length : tie.Need-same-length
 same-length c = search needs
 
 returns : tie.Need-returns
-unfolding listsAt
+unfolding listsRead
 returns c = search refusal-judged
 
 cast-at-most : tie.Need-cast-at-most

@@ -1,14 +1,14 @@
 -- `replay::tally::total` meets its contract. Assumes nothing.
 use mathlib.Core.Path.{_≡_}
 use Prim.Native.Nat.{_≤_, _-_}
-use Rattle.replay.specs.Judging.{totalOf}
+use Rattle.replay.specs.Judging.{totalCount}
 use Rattle.replay.proofs.Tallied.{total-none, total-more, total-all}
 use borrow.Author.Needs.{needs}
 use Rattle.replay.proofs.tally.total.Statement.{statement}
 use Rattle.replay.proofs.tally.total.Tie as tie
 
 abbrev Inv-loop : tie.InvT-loop
-Inv-loop counts n sum₀ k₀ sum k = (k ≤ n) × (sum ≡ totalOf counts k)
+Inv-loop counts n sum₀ k₀ sum k = (k ≤ n) × (sum ≡ totalCount counts k)
 
 abbrev μ-loop : tie.MeasureT-loop
 μ-loop counts n sum₀ k₀ sum k = n - k
