@@ -1,5 +1,5 @@
 -- Laws of the records that build a table, and of the last one. Assumes nothing.
-use mathlib.Core.Path.{_≡_, ap, _∙_}
+use mathlib.Core.Path.{_≡_, ap}
 use mathlib.Core.Bool.{true, false, not}
 use mathlib.Core.List.{List}
 use Prim.Native.Nat.{ℕ, min}
@@ -99,38 +99,12 @@ module _ (s : List ℕ) (p : ℕ) (tally : List ℕ) (n : Value) (m sum : ℕ) (
 
 -- ---- by its kind
 
-module _ (s : List ℕ) (kind p : ℕ) (t tally : List ℕ) (l : LeftBy) where
-  pub kind-1 : kind ≡ 1 → l ≡ vertexAdded s p t tally → l ≡ recordAt s kind p t tally
-  unfolding recordAt
-  kind-1 k e = e ∙ rw k
+pub of-kind : (s : List ℕ) (kind p : ℕ) (t tally : List ℕ) (l : LeftBy) (k : ℕ) → kind ≡ k → l ≡ recordAt s k p t tally → l ≡ recordAt s kind p t tally
+of-kind s kind p t tally l k h e = rw h e
 
-  pub kind-2 : kind ≡ 2 → l ≡ hyperedgeAdded s p t tally → l ≡ recordAt s kind p t tally
-  unfolding recordAt
-  kind-2 k e = e ∙ rw k
-
-  pub kind-3 : kind ≡ 3 → l ≡ hyperedgeUpdated s p t tally → l ≡ recordAt s kind p t tally
-  unfolding recordAt
-  kind-3 k e = e ∙ rw k
-
-  pub kind-4 : kind ≡ 4 → l ≡ vertexRemoved s p t tally → l ≡ recordAt s kind p t tally
-  unfolding recordAt
-  kind-4 k e = e ∙ rw k
-
-  pub kind-5 : kind ≡ 5 → l ≡ hyperedgeRemoved s p t tally → l ≡ recordAt s kind p t tally
-  unfolding recordAt
-  kind-5 k e = e ∙ rw k
-
-  pub kind-6 : kind ≡ 6 → l ≡ edited s p 5 (clearResult t) tally → l ≡ recordAt s kind p t tally
-  unfolding recordAt
-  kind-6 k e = e ∙ rw k
-
-  pub kind-7 : kind ≡ 7 → l ≡ tableSummed s p t tally → l ≡ recordAt s kind p t tally
-  unfolding recordAt
-  kind-7 k e = e ∙ rw k
-
-pub kind-255 : (s : List ℕ) (kind p : ℕ) (t tally : List ℕ) (r : ℕ) → kind ≡ 255 → r ≡ endAt s p tally → leftBy r t tally ≡ recordAt s kind p t tally
+pub last-kind : (s : List ℕ) (kind p : ℕ) (t tally : List ℕ) (r : ℕ) → kind ≡ 255 → r ≡ endAt s p tally → leftBy r t tally ≡ recordAt s kind p t tally
 unfolding recordAt
-kind-255 s kind p t tally r k e = rw (e, k)
+last-kind s kind p t tally r k e = rw (e, k)
 
 pub no-kind : (s : List ℕ) (kind p : ℕ) (t tally : List ℕ) → (kind ≡ 1 → ⊥) → (kind ≡ 2 → ⊥) → (kind ≡ 3 → ⊥) → (kind ≡ 4 → ⊥) → (kind ≡ 5 → ⊥) → (kind ≡ 6 → ⊥) → (kind ≡ 7 → ⊥) → (kind ≡ 255 → ⊥)
     → leftBy lost t tally ≡ recordAt s kind p t tally

@@ -1,10 +1,11 @@
 -- What is recorded of an answer, whether an answer is the recorded one, and how that is counted. Assumes nothing.
 use mathlib.Core.Bool.{Bool, cond}
-use mathlib.Core.List.{List}
+use mathlib.Core.List.{List, [], _∷_}
 use Prim.Native.Nat.{ℕ, zero, suc, _+_, _*_, _-_, _/_, _%_, _^_, min}
 use lib.Dec.{eqb, leb, ltb}
 use lib.ListN.{length, getD, set}
 use Rattle.lists.specs.Tests.{_and_, every}
+use Rattle.lists.specs.Lists.{counted}
 use Rattle.walk.specs.Walk.{xorshift}
 use Rattle.replay.specs.declared.judge.Recorded.{Recorded}
 use Rattle.replay.specs.declared.judge.Held.{Held}
@@ -68,7 +69,7 @@ pub record AfterCount : Type 0 where
 abbrev pub afterCount : ℕ → List ℕ → AfterCount
 afterCount at tally = record { at = at; tally = tally }
 
--- a comparison, counted for the function of place f
+-- a comparison for the function of place f, counted
 unfoldable pub countedAt : ℕ → Held → List ℕ → AfterCount
 countedAt f h tally = afterCount (h .at) (countedIn f (h .same) tally)
 
@@ -97,7 +98,7 @@ summedAt s p sum = heldAs (eqb (eightRead s p .value) sum) (eightRead s p .at)
 unfoldable pub sameWord : List ℕ → ℕ → List ℕ → ℕ → Bool
 sameWord s p ws k = eqb (wordNumber s p k) (getD ws k 0)
 
--- n words of a listing, word by word
+-- the n words are the first of ws
 unfoldable pub wordsAt : List ℕ → ℕ → List ℕ → ℕ → Held
 wordsAt s p ws n = heldAs (every (sameWord s p ws) n) (afterWords s p n)
 
@@ -112,7 +113,7 @@ withAnswer s p number detail h =
     (heldAs (sameReply number detail (givenAt s p) and h .same) (h .at))
     (answerAt s p number detail)
 
--- the detail that is recorded with answer 0 is how many words follow
+-- an answer with a listing: the detail that is recorded with answer 0 is how many words follow
 unfoldable pub listingAt : List ℕ → ℕ → ℕ → ℕ → List ℕ → Held
 listingAt s p number detail ws =
     withAnswer s p number detail (listedAt s (givenAt s p .at) ws (givenAt s p .detail))
@@ -135,6 +136,11 @@ oneWord r word = closed (rowsOf (cond (eqb (r .left) 0) word (r .left - 1)) (mix
 unfoldable pub rowsAfter : List ℕ → ℕ → Rows
 rowsAfter ws zero = rowsOf 0 sumStart 0
 rowsAfter ws (suc n) = oneWord (rowsAfter ws n) (getD ws n 0)
+
+-- the lists' own sums, added: of whole lists the total is this, high bits dropped, whatever their order
+unfoldable pub ownSums : List (List ℕ) → ℕ
+ownSums [] = 0
+ownSums (l ∷ ls) = sumOf (counted l) (length (counted l)) + ownSums ls
 
 -- an answer with lists: the detail that is recorded with answer 0 is how many words they have, and their sum follows
 unfoldable pub listsRead : List ℕ → ℕ → ℕ → ℕ → List ℕ → Held
@@ -164,7 +170,7 @@ begins e ws = eqb (getD ws 3 0) (e .from) and eqb (getD ws 4 0) 4294967295
 unfoldable pub sameEnds : Ends → ℕ → List ℕ → Bool
 sameEnds e n ws = cond (eqb n 0) (eqb (e .entries) 0) (begins e ws and eqb (getD ws (2 * n + 1) 0) (e .to))
 
--- no more entries than the recorded path has
+-- no more entries than the recorded path has, all words, the same cost, and the right ends
 unfoldable pub samePath : ℕ → ℕ → Ends → List ℕ → Bool
 samePath number detail e ws =
     leb (entriesIn ws) (e .entries)
@@ -180,7 +186,7 @@ endsAt s p from to = record {
   entries = givenAt s p .detail;
 }
 
--- an answer of a path: with answer 0 its cost and its ends, with another the answer alone
+-- an answer with a path
 unfoldable pub pathAt : List ℕ → ℕ → ℕ → ℕ → ℕ → ℕ → List ℕ → Held
 pathAt s p number detail from to ws =
     cond (eqb (givenAt s p .number) 0)

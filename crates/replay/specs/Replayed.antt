@@ -21,7 +21,7 @@ pub record LeftBy : Type 0 where
 abbrev pub leftBy : ℕ → List ℕ → List ℕ → LeftBy
 leftBy at table tally = record { at = at; table = table; tally = tally }
 
--- the table as it is then, and the comparison counted for the function of place f
+-- a comparison for the function of place f, counted, and the table as it is then
 unfoldable pub compared : ℕ → Held → List ℕ → List ℕ → LeftBy
 compared f h table tally = leftBy (h .at) table (countedIn f (h .same) tally)
 
@@ -69,7 +69,7 @@ endAt s p tally =
     let end = summedAt s (fourRead s p .at) (sumOf s (min (fourRead s p .at) (length s))) in
     cond (end .same and (eqb (end .at) (length s) and eqb (fourRead s p .value) (comparedIn tally))) whole lost
 
--- the record of a kind, which stands at place p
+-- what is left by the record of a kind, whose rest stands at place p
 unfoldable pub recordAt : List ℕ → ℕ → ℕ → List ℕ → List ℕ → LeftBy
 recordAt s kind p t tally =
     cond (eqb kind 1) (vertexAdded s p t tally)

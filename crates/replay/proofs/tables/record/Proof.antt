@@ -1,5 +1,6 @@
 -- `replay::tables::record` meets its contract. Assumes nothing.
-use Rattle.replay.proofs.Replayed.{cleared, kind-1, kind-2, kind-3, kind-4, kind-5, kind-6, kind-7, kind-255, no-kind}
+use Rattle.replay.specs.Replayed.{recordAt}
+use Rattle.replay.proofs.Replayed.{cleared, of-kind, last-kind, no-kind}
 use borrow.Author.Needs.{needs}
 use Rattle.replay.proofs.tables.record.Statement.{statement}
 use Rattle.replay.proofs.tables.record.Tie as tie
@@ -38,7 +39,8 @@ same-length-2 : tie.Need-same-length-2
 same-length-2 c = search needs
 
 returns : tie.Need-returns
-returns c = search kind-1
+unfolding recordAt
+returns c = search of-kind
 
 same-length-3 : tie.Need-same-length-3
 same-length-3 c = search needs
@@ -47,7 +49,8 @@ same-length-4 : tie.Need-same-length-4
 same-length-4 c = search needs
 
 returns-2 : tie.Need-returns-2
-returns-2 c = search kind-2
+unfolding recordAt
+returns-2 c = search of-kind
 
 same-length-5 : tie.Need-same-length-5
 same-length-5 c = search needs
@@ -56,7 +59,8 @@ same-length-6 : tie.Need-same-length-6
 same-length-6 c = search needs
 
 returns-3 : tie.Need-returns-3
-returns-3 c = search kind-3
+unfolding recordAt
+returns-3 c = search of-kind
 
 same-length-7 : tie.Need-same-length-7
 same-length-7 c = search needs
@@ -65,7 +69,8 @@ same-length-8 : tie.Need-same-length-8
 same-length-8 c = search needs
 
 returns-4 : tie.Need-returns-4
-returns-4 c = search kind-4
+unfolding recordAt
+returns-4 c = search of-kind
 
 same-length-9 : tie.Need-same-length-9
 same-length-9 c = search needs
@@ -74,7 +79,8 @@ same-length-10 : tie.Need-same-length-10
 same-length-10 c = search needs
 
 returns-5 : tie.Need-returns-5
-returns-5 c = search kind-5
+unfolding recordAt
+returns-5 c = search of-kind
 
 same-length-11 : tie.Need-same-length-11
 same-length-11 c = search needs
@@ -83,7 +89,8 @@ same-length-12 : tie.Need-same-length-12
 same-length-12 c = search needs
 
 returns-6 : tie.Need-returns-6
-returns-6 c = search (kind-6, cleared)
+unfolding recordAt
+returns-6 c = search (of-kind, cleared)
 
 same-length-13 : tie.Need-same-length-13
 same-length-13 c = search needs
@@ -92,13 +99,14 @@ same-length-14 : tie.Need-same-length-14
 same-length-14 c = search needs
 
 returns-7 : tie.Need-returns-7
-returns-7 c = search kind-7
+unfolding recordAt
+returns-7 c = search of-kind
 
 same-length-15 : tie.Need-same-length-15
 same-length-15 c = search needs
 
 returns-8 : tie.Need-returns-8
-returns-8 c = search kind-255
+returns-8 c = search last-kind
 
 returns-9 : tie.Need-returns-9
 returns-9 c = search no-kind
