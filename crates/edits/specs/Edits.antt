@@ -38,7 +38,7 @@ updateHyperedge x ms t = record {
   hyperedges = map (withMembers x ms) (t .hyperedges);
 }
 
--- removing a vertex filters it out of every list and drops lists that held it alone
+-- the list without v
 unfoldable pub without : ℕ → Hyperedge → Hyperedge
 without v e = record { number = e .number; weight = e .weight; members = filter (otherThan itself v) (e .members) }
 
@@ -46,7 +46,7 @@ without v e = record { number = e .number; weight = e .weight; members = filter 
 unfoldable pub hasMembers : Hyperedge → Bool
 hasMembers e = ltb 0 (length (e .members))
 
--- the vertex gone, and gone from every list
+-- the vertex gone, and filtered out of every list; lists that held it alone are dropped
 unfoldable pub removeVertex : ℕ → Table → Table
 removeVertex v t = record {
   nextVertex = t .nextVertex;
@@ -55,7 +55,7 @@ removeVertex v t = record {
   hyperedges = filter hasMembers (map (without v) (t .hyperedges));
 }
 
--- the hyperedge gone
+-- the hyperedge gone, and nothing else
 unfoldable pub removeHyperedge : ℕ → Table → Table
 removeHyperedge x t = record {
   nextVertex = t .nextVertex;

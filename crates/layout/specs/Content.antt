@@ -19,7 +19,7 @@ pub record Hyperedge : Type 0 where
   pub weight : ℕ
   pub members : List ℕ
 
--- a vertex and a hyperedge from their parts, and ones of no use
+-- a vertex and a hyperedge from their parts, and what stands for one at a place where there is none
 abbrev pub vertexOf : ℕ → ℕ → Vertex
 vertexOf number weight = record { number = number; weight = weight }
 

@@ -60,7 +60,7 @@ hyperedgeCount ws = getD ws 3 0
 abbrev pub vertexAt : List ℕ → ℕ → Vertex
 vertexAt ws i = record { number = getD ws (vertexWord i) 0; weight = getD ws (vertexWord i + 1) 0 }
 
--- hyperedge record j: number, weight, count, members
+-- the count of hyperedge record j
 abbrev pub countAt : ℕ → List ℕ → ℕ → ℕ
 countAt L ws j = getD ws (hyperedgeWord L j + 2) 0
 
@@ -68,7 +68,7 @@ countAt L ws j = getD ws (hyperedgeWord L j + 2) 0
 abbrev pub membersAt : ℕ → List ℕ → ℕ → List ℕ
 membersAt L ws j = take (countAt L ws j) (drop (hyperedgeWord L j + 3) ws)
 
--- the whole of hyperedge record j
+-- hyperedge record j: number, weight, members
 abbrev pub hyperedgeAt : ℕ → List ℕ → ℕ → Hyperedge
 hyperedgeAt L ws j = record {
   number = getD ws (hyperedgeWord L j) 0;

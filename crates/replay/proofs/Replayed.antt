@@ -10,6 +10,7 @@ use borrow.Author.Tests.{eq-eqb, ne-eqb, not-true, not-false}
 use Rattle.lists.specs.Tests.{_and_}
 use Rattle.lists.specs.Lists.{over}
 use Rattle.lists.proofs.Tab.{length-tab}
+use Rattle.layout.specs.Layout.{limit}
 use Rattle.layout.specs.declared.Answer.{Answer}
 use Rattle.layout.specs.Answers.{Result, number, detail, result, onFormed}
 use Rattle.edits.specs.Results.{addVertexResult, addHyperedgeResult, updateResult, removeVertexResult, removeHyperedgeResult, clearResult}
@@ -19,7 +20,7 @@ use Rattle.replay.specs.declared.reading.Extent.{Extent}
 use Rattle.replay.specs.declared.judge.Held.{Held}
 use Rattle.replay.specs.Records.{lost, whole, fourRead, eightRead, wordRead, wordNumber, byteRead, extentAt, listAt}
 use Rattle.replay.specs.Judging.{AfterCount, countedIn, comparedIn, answerAt, afterCount, countedAt, sumOf, summedAt}
-use Rattle.replay.specs.Replayed.{LeftBy, leftBy, compared, edited, room, vertexAdded, hyperedgeAdded, hyperedgeUpdated, vertexRemoved, hyperedgeRemoved, tableSummed, endAt, recordAt}
+use Rattle.replay.specs.Replayed.{LeftBy, leftBy, compared, edited, vertexAdded, hyperedgeAdded, hyperedgeUpdated, vertexRemoved, hyperedgeRemoved, tableSummed, endAt, recordAt}
 
 -- the words of a list, taken from the room that they were read into
 list-taken : (s : List ℕ) (p : ℕ) (d : List ℕ) → take (extentAt s p (length d) .count) (over (listAt s p (length d)) d) ≡ listAt s p (length d)
@@ -50,21 +51,21 @@ module _ (s : List ℕ) (p : ℕ) (t tally : List ℕ) (r : ℕ) (t′ tally′ 
     unfolding hyperedgeRemoved
     hyperedge-removed e j = rw (← i) (edited-as (w .at) 4 _ e j)
 
-    pub hyperedge-updated : (d m : List ℕ) (l : Extent) → l ≡ extentAt s (w .at) (length d) → m ≡ over (listAt s (w .at) (length d)) d → length d ≡ room
+    pub hyperedge-updated : (d m : List ℕ) (l : Extent) → l ≡ extentAt s (w .at) (length d) → m ≡ over (listAt s (w .at) (length d)) d → length d ≡ limit
         → result a t′ ≡ onFormed t t (updateResult (w .value) (take (l .count) m) t) → afterCount r tally′ ≡ countedAt 2 (answerAt s (l .at) (number a) (detail a)) tally
         → leftBy r t′ tally′ ≡ hyperedgeUpdated s p t tally
     unfolding hyperedgeUpdated
     hyperedge-updated d m l f g n e j =
-        let words : take (l .count) m ≡ listAt s (w .at) room = rw (g, f, list-taken s (w .at) d, n) in
+        let words : take (l .count) m ≡ listAt s (w .at) limit = rw (g, f, list-taken s (w .at) d, n) in
         rw (← i, ← n, ← f, n, ← words) (edited-as (l .at) 2 _ e j)
 
-  pub hyperedge-added : (d m : List ℕ) (l : Extent) (w : Value) → l ≡ extentAt s p (length d) → m ≡ over (listAt s p (length d)) d → length d ≡ room → w ≡ wordRead s (l .at)
+  pub hyperedge-added : (d m : List ℕ) (l : Extent) (w : Value) → l ≡ extentAt s p (length d) → m ≡ over (listAt s p (length d)) d → length d ≡ limit → w ≡ wordRead s (l .at)
       → result a t′ ≡ onFormed t t (addHyperedgeResult (take (l .count) m) (w .value) t) → afterCount r tally′ ≡ countedAt 1 (answerAt s (w .at) (number a) (detail a)) tally
       → leftBy r t′ tally′ ≡ hyperedgeAdded s p t tally
   unfolding hyperedgeAdded
   hyperedge-added d m l w f g n i e j =
-      let words : take (l .count) m ≡ listAt s p room = rw (g, f, list-taken s p d, n) in
-      let extent : l ≡ extentAt s p room = rw n at f in
+      let words : take (l .count) m ≡ listAt s p limit = rw (g, f, list-taken s p d, n) in
+      let extent : l ≡ extentAt s p limit = rw n at f in
       rw (← words, ← extent, ← i) (edited-as (w .at) 1 _ e j)
 
 pub table-summed : (s : List ℕ) (p : ℕ) (t tally tally′ : List ℕ) (x : LongValue) (sum : ℕ) → x ≡ eightRead s p → sum ≡ sumOf t (length t)

@@ -5,6 +5,7 @@ use Prim.Native.Nat.{ℕ, min}
 use lib.Dec.{eqb}
 use lib.ListN.{length}
 use Rattle.lists.specs.Tests.{_and_}
+use Rattle.layout.specs.Layout.{limit}
 use Rattle.layout.specs.Answers.{Result, onFormed}
 use Rattle.edits.specs.Results.{addVertexResult, addHyperedgeResult, updateResult, removeVertexResult, removeHyperedgeResult, clearResult}
 use Rattle.replay.specs.declared.judge.Held.{Held}
@@ -29,10 +30,6 @@ compared f h table tally = leftBy (h .at) table (countedIn f (h .same) tally)
 unfoldable pub edited : List ℕ → ℕ → ℕ → Result → List ℕ → LeftBy
 edited s p f x tally = compared f (answerAt s p (x .number) (x .detail)) (x .lent) tally
 
--- a list has no more members than this
-abbrev pub room : ℕ
-room = 32
-
 -- the vertex's weight, and the answer
 unfoldable pub vertexAdded : List ℕ → ℕ → List ℕ → List ℕ → LeftBy
 vertexAdded s p t tally = edited s (wordRead s p .at) 0 (onFormed t t (addVertexResult (wordRead s p .value) t)) tally
@@ -40,15 +37,15 @@ vertexAdded s p t tally = edited s (wordRead s p .at) 0 (onFormed t t (addVertex
 -- the members, the weight, and the answer
 unfoldable pub hyperedgeAdded : List ℕ → ℕ → List ℕ → List ℕ → LeftBy
 hyperedgeAdded s p t tally =
-    edited s (wordRead s (extentAt s p room .at) .at) 1
-    (onFormed t t (addHyperedgeResult (listAt s p room) (wordRead s (extentAt s p room .at) .value) t))
+    edited s (wordRead s (extentAt s p limit .at) .at) 1
+    (onFormed t t (addHyperedgeResult (listAt s p limit) (wordRead s (extentAt s p limit .at) .value) t))
     tally
 
 -- the hyperedge, its new members, and the answer
 unfoldable pub hyperedgeUpdated : List ℕ → ℕ → List ℕ → List ℕ → LeftBy
 hyperedgeUpdated s p t tally =
-    edited s (extentAt s (wordRead s p .at) room .at) 2
-    (onFormed t t (updateResult (wordRead s p .value) (listAt s (wordRead s p .at) room) t))
+    edited s (extentAt s (wordRead s p .at) limit .at) 2
+    (onFormed t t (updateResult (wordRead s p .value) (listAt s (wordRead s p .at) limit) t))
     tally
 
 -- the vertex, and the answer

@@ -24,7 +24,7 @@ fn vertex_added(s: &[u8], at: usize, t: &mut [u32], tally: &mut [u32]) -> usize
 fn hyperedge_added(s: &[u8], at: usize, t: &mut [u32], tally: &mut [u32]) -> usize
     ensures { λ r. ⌜ leftBy r (now (t .exit)) (now (tally .exit)) ≡ hyperedgeAdded (now (s .entry)) at (now (t .entry)) (now (tally .entry)) ⌝ }
 {
-    let mut members = [0u32; 32];
+    let mut members = [0u32; layout::MEMBER_LIMIT];
     let l = reading::list(s, at, &mut members);
     let n = l.count;
     let w = reading::word(s, l.at);
@@ -35,7 +35,7 @@ fn hyperedge_added(s: &[u8], at: usize, t: &mut [u32], tally: &mut [u32]) -> usi
 fn hyperedge_updated(s: &[u8], at: usize, t: &mut [u32], tally: &mut [u32]) -> usize
     ensures { λ r. ⌜ leftBy r (now (t .exit)) (now (tally .exit)) ≡ hyperedgeUpdated (now (s .entry)) at (now (t .entry)) (now (tally .entry)) ⌝ }
 {
-    let mut members = [0u32; 32];
+    let mut members = [0u32; layout::MEMBER_LIMIT];
     let e = reading::word(s, at);
     let l = reading::list(s, e.at, &mut members);
     let n = l.count;
