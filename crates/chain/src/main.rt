@@ -1,7 +1,7 @@
 // Runs the searches on a chain of 256 vertices, the longest walk that a table can hold. A line for each call: what was asked, then
 // the answer's number and detail; for a listing that is done also its first two vertices and its last.
-use edits::add_hyperedge::add_hyperedge;
-use edits::add_vertex::add_vertex;
+use add_hyperedge::add_hyperedge;
+use add_vertex::add_vertex;
 use layout::Answer;
 use layout::VertexIndex;
 use libc::STDOUT_FILENO;
@@ -68,7 +68,7 @@ fn depth_first(t: &[u32]) {
 
 fn sorted(t: &[u32]) {
     let mut out = [0u32; 256];
-    say(b"sort", structural::topological_sort(t, &mut out));
+    say(b"sort", topological_sort::topological_sort(t, &mut out));
     say_ends(&out);
 }
 
@@ -77,7 +77,7 @@ fn strong(t: &[u32]) {
     let mut out = [0u32; 512];
     say(
         b"strong components",
-        structural::strongly_connected_components(t, &mut out),
+        component_listings::strongly_connected_components(t, &mut out),
     );
     say_vertex(out[0]);
     say_vertex(out[1]);

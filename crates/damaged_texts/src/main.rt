@@ -22,7 +22,7 @@ fn differs(text: &[u8], line: u8) -> usize
     ensures { λ r. ⌜ r ≤ 1 ⌝ }
 {
     let mut t = [0u32; layout::SIZE];
-    let r = layout::reply_of(reader::read_frames(&mut t, text));
+    let r = layout::reply_of(read_frames::read_frames(&mut t, text));
     if r.number == 0 {
         return apart(0, line);
     }

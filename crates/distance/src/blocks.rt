@@ -2,7 +2,7 @@
 ghost use mathlib.Core.Path.{_≡_};
 ghost use mathlib.Core.Logic.{_⊎_};
 ghost use Prim.Native.Nat.{ℕ, _+_, _-_, _*_, _<_, _≤_};
-ghost use lib.ListN.{length, getD, set};
+ghost use lib.ListN.{getD};
 ghost use Rattle.distance.specs.Labels.{Nearest};
 ghost use Rattle.distance.specs.Blocks.{farKey, Open, Nearer, Block, Blocks, Lowest, hasKey};
 ghost use Rattle.order.specs.Least.{least};
@@ -35,7 +35,7 @@ fn open_key(mark: u8, key: u64) -> u64
 }
 
 // The lesser of two keys.
-fn lesser(a: u64, b: u64) -> u64
+pub fn lesser(a: u64, b: u64) -> u64
     ensures { λ r. ⌜ (r ≤ a) × (r ≤ b) × ((r ≡ a) ⊎ (r ≡ b)) ⌝ }
 {
     if b < a {
@@ -56,7 +56,7 @@ fn block_end(n: usize, j: usize) -> usize
 }
 
 // The least key of the labelled numbers of block j, or a far one.
-fn block_key(n: usize, m: &[u8; 256], d: &[u64; 256], j: usize) -> u64
+pub fn block_key(n: usize, m: &[u8; 256], d: &[u64; 256], j: usize) -> u64
     requires { ⌜ (n ≤ 256) × (j * 16 ≤ n) ⌝ }
     ensures { λ r. ⌜ Block n (now (m .entry)) (now (d .entry)) j r ⌝ }
 {
@@ -131,26 +131,4 @@ pub fn pick(n: usize, m: &[u8; 256], d: &[u64; 256], b: &[u64; 16]) -> usize
         return n;
     }
     first_of(n, m, d, p.key, p.at * 16)
-}
-
-// The number v is labelled with a key, no greater than the one it may have.
-pub fn label(n: usize, v: usize, key: u64, m: &mut [u8; 256], d: &mut [u64; 256], b: &mut [u64; 16])
-    requires { ⌜ (n ≤ 256) × (v < n) × (length (now m) ≡ 256) × (length (now d) ≡ 256) × (getD (now m) v 0 ≡ 1 → key ≤ getD (now d) v 0) × Blocks n (now m) (now d) (now b) ⌝ }
-    ensures { λ _. ⌜ (now (m .exit) ≡ set (now (m .entry)) v 1) × (now (d .exit) ≡ set (now (d .entry)) v key) × Blocks n (now (m .exit)) (now (d .exit)) (now (b .exit)) ⌝ }
-{
-    m[v] = 1;
-    d[v] = key;
-    let j = v / 16;
-    b[j] = lesser(b[j], key);
-}
-
-// The number u is settled.
-pub fn settle(n: usize, u: usize, m: &mut [u8; 256], d: &[u64; 256], b: &mut [u64; 16])
-    requires { ⌜ (n ≤ 256) × (u < n) × (length (now m) ≡ 256) × Blocks n (now m) (now d) (now b) ⌝ }
-    ensures { λ _. ⌜ (now (m .exit) ≡ set (now (m .entry)) u 2) × Blocks n (now (m .exit)) (now (d .entry)) (now (b .exit)) ⌝ }
-{
-    m[u] = 2;
-    let j = u / 16;
-    let key = block_key(n, m, d, j);
-    b[j] = key;
 }

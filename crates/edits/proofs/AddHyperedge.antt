@@ -17,8 +17,8 @@ use Rattle.layout.specs.Content.{Hyperedge, hyperedgeOf}
 use Rattle.layout.specs.Layout.{hyperedgeLimit, size, hyperedgeWord, nextHyperedgeIn, hyperedgeCount, hyperedgeAt, readHyperedges, read, words, limit}
 use Rattle.layout.specs.WellFormed.{Formed}
 use Rattle.layout.specs.Answers.{Result, result}
-use Rattle.edits.specs.declared.member_lists.Judgement.{Judgement}
-use Rattle.edits.specs.declared.member_lists.Judgement.the-variants.{Refused, Fine}
+use Rattle.edits.specs.declared.Judgement.{Judgement}
+use Rattle.edits.specs.declared.Judgement.the-variants.{Refused, Fine}
 use Rattle.edits.specs.Edits.{addHyperedge}
 use Rattle.edits.specs.Records.{memberWords, putHyperedge}
 use Rattle.edits.specs.Results.{lastNumber, addHyperedgeResult}

@@ -15,8 +15,8 @@ use Rattle.layout.specs.Content.{Table, liveVertices}
 use Rattle.layout.specs.Layout.{limit, size, vertexCount, vertexAt, read}
 use Rattle.layout.specs.Answers.{Result, result, firstMissing, vertexMissing, onLiveVertices}
 use Rattle.layout.proofs.Answers.{on-first-missing, on-none-missing}
-use Rattle.edits.specs.declared.member_lists.Judgement.{Judgement}
-use Rattle.edits.specs.declared.member_lists.Judgement.the-variants.{Refused, Fine}
+use Rattle.edits.specs.declared.Judgement.{Judgement}
+use Rattle.edits.specs.declared.Judgement.the-variants.{Refused, Fine}
 use Rattle.lists.specs.Lists.{overAt}
 use Rattle.edits.specs.Results.{lastNumber, onSome, onShort, onRoom, onNumber, clearResult, emptyResult}
 use Rattle.edits.specs.Stages.{onMembers, orElse, JudgedBy}

@@ -23,8 +23,8 @@ use Rattle.layout.specs.WellFormed.{Formed, hyperedgeColumn}
 use Rattle.layout.specs.Answers.{Result, result, hyperedgeMissing}
 use Rattle.layout.proofs.Read.{hyperedge-found}
 use Rattle.layout.proofs.Answers.{on-missing, on-found}
-use Rattle.edits.specs.declared.member_lists.Judgement.{Judgement}
-use Rattle.edits.specs.declared.member_lists.Judgement.the-variants.{Refused, Fine}
+use Rattle.edits.specs.declared.Judgement.{Judgement}
+use Rattle.edits.specs.declared.Judgement.the-variants.{Refused, Fine}
 use Rattle.edits.specs.Edits.{withMembers, updateHyperedge}
 use Rattle.edits.specs.Records.{memberWords, putHyperedge}
 use Rattle.edits.specs.Results.{membersOf, onChanged, updateResult}

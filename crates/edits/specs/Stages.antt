@@ -10,8 +10,8 @@ use Rattle.layout.specs.declared.Answer.the-variants.{Done}
 use Rattle.layout.specs.Content.{Hyperedge, Table}
 use Rattle.layout.specs.Layout.{limit, hyperedgeLimit, words}
 use Rattle.layout.specs.Answers.{Result, result, onLiveVertices, onLiveHyperedge}
-use Rattle.edits.specs.declared.member_lists.Judgement.{Judgement}
-use Rattle.edits.specs.declared.member_lists.Judgement.the-variants.{Refused, Fine}
+use Rattle.edits.specs.declared.Judgement.{Judgement}
+use Rattle.edits.specs.declared.Judgement.the-variants.{Refused, Fine}
 use Rattle.edits.specs.Edits.{addHyperedge, updateHyperedge}
 use Rattle.edits.specs.Results.{onSome, onShort, onRoom, onNumber, identical, onNew, onChanged}
 

@@ -1,10 +1,11 @@
-// The edits, a file for each.
-pub mod add_hyperedge;
-pub mod add_vertex;
-pub mod hypergraph;
-mod member_lists;
-mod records;
-pub mod remove_hyperedge;
-pub mod remove_vertex;
-mod shift;
-pub mod update_hyperedge_vertices;
+// What the edits share: a judgement of a member list, stores in a record, and words moved down.
+use layout::Answer;
+
+pub mod records;
+pub mod shift;
+
+// What speaks against a member list: the answer that refuses it, or nothing.
+pub enum Judgement {
+    Refused(Answer),
+    Fine,
+}

@@ -1,15 +1,15 @@
 // Runs the edits at their limits. A line for each call: what was asked, then the answer's number and detail.
-use edits::add_hyperedge::add_hyperedge;
-use edits::add_vertex::add_vertex;
-use edits::hypergraph::clear;
-use edits::hypergraph::is_empty;
-use edits::remove_hyperedge::remove_hyperedge;
-use edits::remove_vertex::remove_vertex;
-use edits::update_hyperedge_vertices::update_hyperedge_vertices as update;
+use add_hyperedge::add_hyperedge;
+use add_vertex::add_vertex;
+use hypergraph::clear;
+use hypergraph::is_empty;
 use layout::Answer;
 use layout::HyperedgeIndex;
 use layout::VertexIndex;
 use libc::STDOUT_FILENO;
+use remove_hyperedge::remove_hyperedge;
+use remove_vertex::remove_vertex;
+use update_hyperedge_vertices::update_hyperedge_vertices as update;
 
 fn say(what: &[u8], a: Answer) {
     let r = layout::reply_of(a);

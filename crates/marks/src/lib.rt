@@ -19,7 +19,7 @@ pub fn mark(t: &[u32], x: u32, marks: &mut [bool; 256])
     requires { ⌜ Formed limit (now t) ⌝ }
     ensures { λ _. ⌜ now (marks .exit) ≡ marking (position x (liveVertices (read limit (now (t .entry))))) (now (marks .entry)) ⌝ }
 {
-    let f = layout::find_vertex(t, VertexIndex(x));
+    let f = find::find_vertex(t, VertexIndex(x));
     match f {
         Found::Nothing => {}
         Found::At(i) => marks[i] = true,

@@ -47,10 +47,10 @@ use Rattle.strong.proofs.part_strong.Kinds as part-strong
 use Rattle.strong.proofs.part_strong.Reads as part-strong-reads
 use Rattle.closure.proofs.close.Kinds as close
 use Rattle.closure.proofs.close.Reads as close-reads
-use Rattle.distance.proofs.dijkstra.Kinds as dijkstra
-use Rattle.distance.proofs.dijkstra.Reads as dijkstra-reads
-use Rattle.distance.proofs.best_walk.Kinds as best-walk
-use Rattle.distance.proofs.best_walk.Reads as best-walk-reads
+use Rattle.dijkstra.proofs.dijkstra.Kinds as dijkstra
+use Rattle.dijkstra.proofs.dijkstra.Reads as dijkstra-reads
+use Rattle.dijkstra.proofs.best_walk.Kinds as best-walk
+use Rattle.dijkstra.proofs.best_walk.Reads as best-walk-reads
 
 -- the first n words of an array
 abbrev firsts : ℕ → List ℕ → List ℕ

@@ -6,7 +6,7 @@ use native.Mathlib.Numerals.{add-one}
 use native.Mathlib.Omega.{arith}
 use lib.ListN.{getD}
 use borrow.Author.Tests.{eq-eqb, ne-eqb}
-use Rattle.replay.specs.declared.rows.Rows.{Rows}
+use Rattle.replay.specs.declared.Rows.{Rows}
 use Rattle.replay.specs.Judging.{mixed, sumStart, rowsOf, closed, oneWord, rowsAfter}
 
 module _ (r : Rows) where

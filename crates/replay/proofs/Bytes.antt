@@ -11,9 +11,9 @@ use borrow.Author.Tests.{lt-ltb, le-ltb, le-leb, lt-leb, eq-eqb, ne-eqb}
 use Rattle.lists.specs.Lists.{over, tab}
 use Rattle.lists.proofs.Chosen.{over-more}
 use Rattle.lists.proofs.Tab.{length-tab, tab-suc}
-use Rattle.replay.specs.declared.reading.Value.{Value}
-use Rattle.replay.specs.declared.reading.LongValue.{LongValue}
-use Rattle.replay.specs.declared.reading.Extent.{Extent}
+use Rattle.replay.specs.declared.Value.{Value}
+use Rattle.replay.specs.declared.LongValue.{LongValue}
+use Rattle.replay.specs.declared.Extent.{Extent}
 use Rattle.replay.specs.Records.{lost, valueOf, byteRead, twoRead, fourRead, eightRead, wordRead, afterWords, wordNumber, extentAt, listAt}
 
 module _ (s : List ℕ) (p : ℕ) where

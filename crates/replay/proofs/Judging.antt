@@ -10,10 +10,10 @@ use lib.ListN.{length, getD}
 use borrow.Author.Tests.{lt-ltb, le-ltb, eq-eqb, ne-eqb}
 use Rattle.lists.specs.Tests.{_and_, every}
 use Rattle.lists.proofs.Cases.{on-below, and-false-right, and-true}
-use Rattle.replay.specs.declared.reading.Value.{Value}
-use Rattle.replay.specs.declared.reading.LongValue.{LongValue}
-use Rattle.replay.specs.declared.judge.Recorded.{Recorded}
-use Rattle.replay.specs.declared.judge.Held.{Held}
+use Rattle.replay.specs.declared.Value.{Value}
+use Rattle.replay.specs.declared.LongValue.{LongValue}
+use Rattle.replay.specs.declared.Recorded.{Recorded}
+use Rattle.replay.specs.declared.Held.{Held}
 use Rattle.replay.specs.Records.{byteRead, eightRead, wordRead, afterWords, wordNumber}
 use Rattle.replay.specs.Judging.{countedIn, recorded, givenAt, sameReply, heldAs, answerAt, afterCount, countedAt, mixed, sumStart, sumOf, summedAt, sameWord, wordsAt, listedAt, withAnswer, listingAt, rowsAfter, listsRead}
 use Rattle.replay.proofs.Tallied.{none-there}

@@ -7,9 +7,9 @@ use lib.Dec.{eqb}
 use lib.ListN.{getD}
 use borrow.Author.Tests.{le-leb, lt-leb, eq-eqb, ne-eqb, not-true, not-false}
 use Rattle.lists.specs.Tests.{_and_}
-use Rattle.replay.specs.declared.reading.Value.{Value}
-use Rattle.replay.specs.declared.judge.Recorded.{Recorded}
-use Rattle.replay.specs.declared.path.Ends.{Ends}
+use Rattle.replay.specs.declared.Value.{Value}
+use Rattle.replay.specs.declared.Recorded.{Recorded}
+use Rattle.replay.specs.declared.Ends.{Ends}
 use Rattle.replay.specs.Records.{wordRead, afterWords, wordNumber}
 use Rattle.replay.specs.Judging.{countedIn, givenAt, sameReply, afterCount, countedAt, isWhole, sameCost, begins, sameEnds, samePath, endsAt, pathAt}
 use Rattle.replay.proofs.Judging.{answer-judged}

@@ -14,10 +14,10 @@ use Rattle.layout.specs.Layout.{limit}
 use Rattle.layout.specs.declared.Answer.{Answer}
 use Rattle.layout.specs.Answers.{Result, number, detail, result, onFormed}
 use Rattle.edits.specs.Results.{addVertexResult, addHyperedgeResult, updateResult, removeVertexResult, removeHyperedgeResult, clearResult}
-use Rattle.replay.specs.declared.reading.Value.{Value}
-use Rattle.replay.specs.declared.reading.LongValue.{LongValue}
-use Rattle.replay.specs.declared.reading.Extent.{Extent}
-use Rattle.replay.specs.declared.judge.Held.{Held}
+use Rattle.replay.specs.declared.Value.{Value}
+use Rattle.replay.specs.declared.LongValue.{LongValue}
+use Rattle.replay.specs.declared.Extent.{Extent}
+use Rattle.replay.specs.declared.Held.{Held}
 use Rattle.replay.specs.Records.{lost, whole, fourRead, eightRead, wordRead, wordNumber, byteRead, extentAt, listAt}
 use Rattle.replay.specs.Judging.{AfterCount, countedIn, comparedIn, answerAt, afterCount, countedAt, sumOf, summedAt}
 use Rattle.replay.specs.Replayed.{LeftBy, leftBy, compared, edited, vertexAdded, hyperedgeAdded, hyperedgeUpdated, vertexRemoved, hyperedgeRemoved, tableSummed, endAt, recordAt}

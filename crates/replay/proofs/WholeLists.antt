@@ -7,7 +7,7 @@ use native.Mathlib.Omega.{arith}
 use lib.ListN.{length, getD}
 use borrow.Author.Tests.{ne-eqb}
 use Rattle.lists.specs.Lists.{flat, counted}
-use Rattle.replay.specs.declared.rows.Rows.{Rows}
+use Rattle.replay.specs.declared.Rows.{Rows}
 use Rattle.replay.specs.Judging.{mixed, sumStart, sumOf, rowsOf, closed, oneWord, rowsAfter, ownSums}
 
 -- f along the words, from a on

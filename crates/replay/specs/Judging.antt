@@ -7,10 +7,10 @@ use lib.ListN.{length, getD, set}
 use Rattle.lists.specs.Tests.{_and_, every}
 use Rattle.lists.specs.Lists.{counted}
 use Rattle.walk.specs.Walk.{xorshift}
-use Rattle.replay.specs.declared.judge.Recorded.{Recorded}
-use Rattle.replay.specs.declared.judge.Held.{Held}
-use Rattle.replay.specs.declared.rows.Rows.{Rows}
-use Rattle.replay.specs.declared.path.Ends.{Ends}
+use Rattle.replay.specs.declared.Recorded.{Recorded}
+use Rattle.replay.specs.declared.Held.{Held}
+use Rattle.replay.specs.declared.Rows.{Rows}
+use Rattle.replay.specs.declared.Ends.{Ends}
 use Rattle.replay.specs.Records.{byteRead, eightRead, wordRead, afterWords, wordNumber}
 
 -- ---- the tally

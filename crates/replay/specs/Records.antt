@@ -5,9 +5,9 @@ use Prim.Native.Nat.{ℕ, zero, suc, _+_, _*_}
 use lib.Dec.{eqb, leb, ltb}
 use lib.ListN.{length, getD}
 use Rattle.lists.specs.Lists.{tab}
-use Rattle.replay.specs.declared.reading.Value.{Value}
-use Rattle.replay.specs.declared.reading.LongValue.{LongValue}
-use Rattle.replay.specs.declared.reading.Extent.{Extent}
+use Rattle.replay.specs.declared.Value.{Value}
+use Rattle.replay.specs.declared.LongValue.{LongValue}
+use Rattle.replay.specs.declared.Extent.{Extent}
 
 -- the place after a record that is not whole, and the place after the last one
 abbrev pub lost : ℕ

@@ -8,7 +8,7 @@ use Rattle.lists.specs.Tests.{_and_}
 use Rattle.layout.specs.Layout.{limit}
 use Rattle.layout.specs.Answers.{Result, onFormed}
 use Rattle.edits.specs.Results.{addVertexResult, addHyperedgeResult, updateResult, removeVertexResult, removeHyperedgeResult, clearResult}
-use Rattle.replay.specs.declared.judge.Held.{Held}
+use Rattle.replay.specs.declared.Held.{Held}
 use Rattle.replay.specs.Records.{lost, whole, fourRead, wordRead, extentAt, listAt}
 use Rattle.replay.specs.Judging.{countedIn, comparedIn, answerAt, sumOf, summedAt}
 

@@ -1,18 +1,15 @@
 // Replays recorded answers of the Rust: the edits, and whether a table is empty. A line for each function: how many answers were compared,
 // and how many differ.
-use edits::hypergraph::is_empty;
-use replay::judge;
-use replay::reading;
-use replay::tables;
+use hypergraph::is_empty;
 use replay::tally;
 
 // The record at `at`, and the place after it.
 fn record(s: &[u8], at: usize, t: &mut [u32], tally: &mut [u32]) -> usize {
-    let first = reading::byte(s, at);
+    let first = replay_reading::byte(s, at);
     let kind = first.value;
     match kind {
-        8 => judge::answer(s, first.at, is_empty(t), 7, tally),
-        _ => tables::record(s, kind, first.at, t, tally),
+        8 => replay_judge::answer(s, first.at, is_empty(t), 7, tally),
+        _ => replay_tables::record(s, kind, first.at, t, tally),
     }
 }
 
@@ -32,14 +29,14 @@ fn run(s: &[u8]) {
     let mut t = [0u32; 7236];
     let mut tally = [0u32; 64];
     let end = records(s, &mut t, &mut tally);
-    tables::lines(&tally);
+    replay_tables::lines(&tally);
     tally::line(b"is_empty", 7, &tally);
     tally::all(&tally);
-    tables::say_end(end);
+    replay_tables::say_end(end);
 }
 
 fn main() {
     let mut bytes = [0u8; 262144];
-    let n = reading::file(&mut bytes);
+    let n = replay_reading::file(&mut bytes);
     run(&bytes[..n]);
 }

@@ -1,9 +1,5 @@
 // Replays recorded answers of the Rust: the lookups. A line for each function: how many answers were compared, and how many differ.
 use layout::VertexIndex;
-use replay::judge;
-use replay::reading;
-use replay::rows;
-use replay::tables;
 use replay::tally;
 
 fn adjacent(
@@ -14,10 +10,10 @@ fn adjacent(
     out: &mut [u32],
     tally: &mut [u32],
 ) -> usize {
-    let a = lookups::get_adjacent_vertices_from(t, v, out);
-    let b = judge::listing(s, at, a, out, 7, tally);
-    let c = lookups::get_adjacent_vertices_to(t, v, out);
-    judge::listing(s, b, c, out, 8, tally)
+    let a = adjacent::get_adjacent_vertices_from(t, v, out);
+    let b = replay_judge::listing(s, at, a, out, 7, tally);
+    let c = adjacent::get_adjacent_vertices_to(t, v, out);
+    replay_judge::listing(s, b, c, out, 8, tally)
 }
 
 fn full_adjacent(
@@ -28,10 +24,10 @@ fn full_adjacent(
     out: &mut [u32],
     tally: &mut [u32],
 ) -> usize {
-    let a = lookups::get_full_adjacent_vertices_from(t, v, out);
-    let b = judge::listing(s, at, a, out, 9, tally);
-    let c = lookups::get_full_adjacent_vertices_to(t, v, out);
-    judge::listing(s, b, c, out, 10, tally)
+    let a = full_adjacent::get_full_adjacent_vertices_from(t, v, out);
+    let b = replay_judge::listing(s, at, a, out, 9, tally);
+    let c = full_adjacent::get_full_adjacent_vertices_to(t, v, out);
+    replay_judge::listing(s, b, c, out, 10, tally)
 }
 
 fn around(
@@ -42,55 +38,60 @@ fn around(
     out: &mut [u32],
     tally: &mut [u32],
 ) -> usize {
-    let b = judge::answer(s, at, lookups::get_vertex_degree_in(t, v), 11, tally);
-    let d = judge::answer(s, b, lookups::get_vertex_degree_out(t, v), 12, tally);
-    let e = lookups::get_full_vertex_hyperedges(t, v, out);
-    let f = rows::listing(s, d, e, out, 13, tally);
-    let g = lookups::get_vertex_neighborhood(t, v, out);
-    judge::listing(s, f, g, out, 14, tally)
+    let b = replay_judge::answer(s, at, degrees::get_vertex_degree_in(t, v), 11, tally);
+    let d = replay_judge::answer(s, b, degrees::get_vertex_degree_out(t, v), 12, tally);
+    let e = hyperedge_listings::get_full_vertex_hyperedges(t, v, out);
+    let f = replay_rows::listing(s, d, e, out, 13, tally);
+    let g = adjacent::get_vertex_neighborhood(t, v, out);
+    replay_judge::listing(s, f, g, out, 14, tally)
 }
 
 fn of_vertex(s: &[u8], at: usize, t: &[u32], out: &mut [u32], tally: &mut [u32]) -> usize {
-    let v = reading::word(s, at);
+    let v = replay_reading::word(s, at);
     let b = adjacent(s, v.at, VertexIndex(v.value), t, out, tally);
     let c = full_adjacent(s, b, VertexIndex(v.value), t, out, tally);
     around(s, c, VertexIndex(v.value), t, out, tally)
 }
 
 fn of_pair(s: &[u8], at: usize, t: &[u32], out: &mut [u32], tally: &mut [u32]) -> usize {
-    let x = reading::word(s, at);
-    let y = reading::word(s, x.at);
-    let a = lookups::get_hyperedges_connecting(t, VertexIndex(x.value), VertexIndex(y.value), out);
-    judge::listing(s, y.at, a, out, 15, tally)
+    let x = replay_reading::word(s, at);
+    let y = replay_reading::word(s, x.at);
+    let a = hyperedge_listings::get_hyperedges_connecting(
+        t,
+        VertexIndex(x.value),
+        VertexIndex(y.value),
+        out,
+    );
+    replay_judge::listing(s, y.at, a, out, 15, tally)
 }
 
 fn of_weight(s: &[u8], at: usize, t: &[u32], out: &mut [u32], tally: &mut [u32]) -> usize {
-    let w = reading::word(s, at);
-    let a = lookups::find_hyperedges_by_weight(t, w.value, out);
-    let b = judge::listing(s, w.at, a, out, 16, tally);
-    let d = judge::answer(s, b, lookups::contains_vertex(t, w.value), 17, tally);
-    let e = lookups::get_vertex_index(t, w.value, out);
-    judge::listing(s, d, e, out, 18, tally)
+    let w = replay_reading::word(s, at);
+    let a = hyperedge_listings::find_hyperedges_by_weight(t, w.value, out);
+    let b = replay_judge::listing(s, w.at, a, out, 16, tally);
+    let d = replay_judge::answer(s, b, vertex_weights::contains_vertex(t, w.value), 17, tally);
+    let e = vertex_weights::get_vertex_index(t, w.value, out);
+    replay_judge::listing(s, d, e, out, 18, tally)
 }
 
 fn of_hyperedges(s: &[u8], at: usize, t: &[u32], out: &mut [u32], tally: &mut [u32]) -> usize {
     let mut hyperedges = [0u32; 32];
-    let l = reading::list(s, at, &mut hyperedges);
+    let l = replay_reading::list(s, at, &mut hyperedges);
     let n = l.count;
-    let a = lookups::get_hyperedges_intersections(t, &hyperedges[..n], out);
-    judge::listing(s, l.at, a, out, 19, tally)
+    let a = intersections::get_hyperedges_intersections(t, &hyperedges[..n], out);
+    replay_judge::listing(s, l.at, a, out, 19, tally)
 }
 
 // The record at `at`, and the place after it.
 fn record(s: &[u8], at: usize, t: &mut [u32], out: &mut [u32], tally: &mut [u32]) -> usize {
-    let first = reading::byte(s, at);
+    let first = replay_reading::byte(s, at);
     let kind = first.value;
     match kind {
         16 => of_vertex(s, first.at, t, out, tally),
         17 => of_pair(s, first.at, t, out, tally),
         18 => of_weight(s, first.at, t, out, tally),
         19 => of_hyperedges(s, first.at, t, out, tally),
-        _ => tables::record(s, kind, first.at, t, tally),
+        _ => replay_tables::record(s, kind, first.at, t, tally),
     }
 }
 
@@ -107,7 +108,7 @@ fn records(s: &[u8], t: &mut [u32], out: &mut [u32], tally: &mut [u32]) -> usize
 }
 
 fn lines(tally: &[u32]) {
-    tables::lines(tally);
+    replay_tables::lines(tally);
     tally::line(b"get_adjacent_vertices_from", 7, tally);
     tally::line(b"get_adjacent_vertices_to", 8, tally);
     tally::line(b"get_full_adjacent_vertices_from", 9, tally);
@@ -130,11 +131,11 @@ fn run(s: &[u8]) {
     let mut tally = [0u32; 64];
     let end = records(s, &mut t, &mut out, &mut tally);
     lines(&tally);
-    tables::say_end(end);
+    replay_tables::say_end(end);
 }
 
 fn main() {
     let mut bytes = [0u8; 262144];
-    let n = reading::file(&mut bytes);
+    let n = replay_reading::file(&mut bytes);
     run(&bytes[..n]);
 }

@@ -1,25 +1,22 @@
 // Replays recorded answers of the Rust: the properties. A line for each function: how many answers were compared, and how many differ.
-use replay::judge;
-use replay::reading;
-use replay::tables;
 use replay::tally;
 
 fn of_vertices(s: &[u8], at: usize, t: &[u32], out: &mut [u32], tally: &mut [u32]) -> usize {
-    let a = properties::get_orphan_vertices(t, out);
-    let b = judge::listing(s, at, a, out, 7, tally);
+    let a = orphans::get_orphan_vertices(t, out);
+    let b = replay_judge::listing(s, at, a, out, 7, tally);
     let c = properties::get_orphan_hyperedges(t, out);
-    let d = judge::listing(s, b, c, out, 8, tally);
-    let e = properties::get_endpoints(t, out);
-    judge::listing(s, d, e, out, 9, tally)
+    let d = replay_judge::listing(s, b, c, out, 8, tally);
+    let e = orphans::get_endpoints(t, out);
+    replay_judge::listing(s, d, e, out, 9, tally)
 }
 
 fn of_sets(s: &[u8], at: usize, t: &[u32], out: &mut [u32], tally: &mut [u32]) -> usize {
-    let a = properties::get_inclusions(t, out);
-    let b = judge::listing(s, at, a, out, 10, tally);
+    let a = inclusions::get_inclusions(t, out);
+    let b = replay_judge::listing(s, at, a, out, 10, tally);
     let c = properties::find_cut_vertices(t, out);
-    let d = judge::listing(s, b, c, out, 11, tally);
-    let e = properties::get_nestedness_profile(t, out);
-    judge::listing(s, d, e, out, 12, tally)
+    let d = replay_judge::listing(s, b, c, out, 11, tally);
+    let e = nestedness::get_nestedness_profile(t, out);
+    replay_judge::listing(s, d, e, out, 12, tally)
 }
 
 fn whole(s: &[u8], at: usize, t: &[u32], out: &mut [u32], tally: &mut [u32]) -> usize {
@@ -28,19 +25,19 @@ fn whole(s: &[u8], at: usize, t: &[u32], out: &mut [u32], tally: &mut [u32]) -> 
 }
 
 fn uniform(s: &[u8], at: usize, t: &[u32], tally: &mut [u32]) -> usize {
-    let k = reading::word(s, at);
+    let k = replay_reading::word(s, at);
     let a = properties::is_k_uniform(t, k.value as usize);
-    judge::answer(s, k.at, a, 13, tally)
+    replay_judge::answer(s, k.at, a, 13, tally)
 }
 
 // The record at `at`, and the place after it.
 fn record(s: &[u8], at: usize, t: &mut [u32], out: &mut [u32], tally: &mut [u32]) -> usize {
-    let first = reading::byte(s, at);
+    let first = replay_reading::byte(s, at);
     let kind = first.value;
     match kind {
         48 => whole(s, first.at, t, out, tally),
         49 => uniform(s, first.at, t, tally),
-        _ => tables::record(s, kind, first.at, t, tally),
+        _ => replay_tables::record(s, kind, first.at, t, tally),
     }
 }
 
@@ -57,7 +54,7 @@ fn records(s: &[u8], t: &mut [u32], out: &mut [u32], tally: &mut [u32]) -> usize
 }
 
 fn lines(tally: &[u32]) {
-    tables::lines(tally);
+    replay_tables::lines(tally);
     tally::line(b"get_orphan_vertices", 7, tally);
     tally::line(b"get_orphan_hyperedges", 8, tally);
     tally::line(b"get_endpoints", 9, tally);
@@ -74,11 +71,11 @@ fn run(s: &[u8]) {
     let mut tally = [0u32; 64];
     let end = records(s, &mut t, &mut out, &mut tally);
     lines(&tally);
-    tables::say_end(end);
+    replay_tables::say_end(end);
 }
 
 fn main() {
     let mut bytes = [0u8; 262144];
-    let n = reading::file(&mut bytes);
+    let n = replay_reading::file(&mut bytes);
     run(&bytes[..n]);
 }

@@ -1,26 +1,22 @@
 // Replays recorded answers of the Rust: traversal, structure, paths and walks. A line for each function: how many answers were compared,
 // and how many differ.
 use layout::VertexIndex;
-use replay::judge;
-use replay::path;
-use replay::reading;
-use replay::tables;
 use replay::tally;
 
 fn of_steps(s: &[u8], at: usize, t: &[u32], out: &mut [u32], tally: &mut [u32]) -> usize {
-    let b = judge::answer(s, at, structural::is_connected(t), 7, tally);
-    let c = judge::answer(s, b, structural::is_acyclic(t), 8, tally);
-    let d = structural::topological_sort(t, out);
-    judge::listing(s, c, d, out, 9, tally)
+    let b = replay_judge::answer(s, at, component_listings::is_connected(t), 7, tally);
+    let c = replay_judge::answer(s, b, topological_sort::is_acyclic(t), 8, tally);
+    let d = topological_sort::topological_sort(t, out);
+    replay_judge::listing(s, c, d, out, 9, tally)
 }
 
 fn of_components(s: &[u8], at: usize, t: &[u32], out: &mut [u32], tally: &mut [u32]) -> usize {
-    let a = structural::strongly_connected_components(t, out);
-    let b = judge::listing(s, at, a, out, 10, tally);
-    let c = structural::connected_components(t, out);
-    let d = judge::listing(s, b, c, out, 11, tally);
-    let e = structural::get_transitive_closure(t, out);
-    judge::listing(s, d, e, out, 12, tally)
+    let a = component_listings::strongly_connected_components(t, out);
+    let b = replay_judge::listing(s, at, a, out, 10, tally);
+    let c = component_listings::connected_components(t, out);
+    let d = replay_judge::listing(s, b, c, out, 11, tally);
+    let e = component_listings::get_transitive_closure(t, out);
+    replay_judge::listing(s, d, e, out, 12, tally)
 }
 
 fn whole(s: &[u8], at: usize, t: &[u32], out: &mut [u32], tally: &mut [u32]) -> usize {
@@ -29,49 +25,49 @@ fn whole(s: &[u8], at: usize, t: &[u32], out: &mut [u32], tally: &mut [u32]) -> 
 }
 
 fn of_vertex(s: &[u8], at: usize, t: &[u32], out: &mut [u32], tally: &mut [u32]) -> usize {
-    let v = reading::word(s, at);
+    let v = replay_reading::word(s, at);
     let a = traversal::get_bfs(t, VertexIndex(v.value), out);
-    let b = judge::listing(s, v.at, a, out, 13, tally);
+    let b = replay_judge::listing(s, v.at, a, out, 13, tally);
     let c = traversal::get_dfs(t, VertexIndex(v.value), out);
-    let d = judge::listing(s, b, c, out, 14, tally);
-    let e = paths::get_dijkstra_from(t, VertexIndex(v.value), out);
-    judge::listing(s, d, e, out, 15, tally)
+    let d = replay_judge::listing(s, b, c, out, 14, tally);
+    let e = dijkstra_from::get_dijkstra_from(t, VertexIndex(v.value), out);
+    replay_judge::listing(s, d, e, out, 15, tally)
 }
 
 fn of_pair(s: &[u8], at: usize, t: &[u32], out: &mut [u32], tally: &mut [u32]) -> usize {
-    let x = reading::word(s, at);
-    let y = reading::word(s, x.at);
+    let x = replay_reading::word(s, at);
+    let y = replay_reading::word(s, x.at);
     let from = VertexIndex(x.value);
     let to = VertexIndex(y.value);
-    let b = judge::answer(s, y.at, traversal::is_reachable(t, from, to), 16, tally);
-    let c = paths::get_dijkstra_connections_with_cost(t, from, to, out);
-    path::answer(s, b, c, x.value, y.value, out, 17, tally)
+    let b = replay_judge::answer(s, y.at, traversal::is_reachable(t, from, to), 16, tally);
+    let c = dijkstra_connections::get_dijkstra_connections_with_cost(t, from, to, out);
+    replay_rows::answer(s, b, c, x.value, y.value, out, 17, tally)
 }
 
 fn walked(s: &[u8], at: usize, t: &[u32], out: &mut [u32], tally: &mut [u32]) -> usize {
-    let v = reading::word(s, at);
-    let steps = reading::word(s, v.at);
-    let seed = reading::eight(s, steps.at);
-    let a = walk::random_walk(
+    let v = replay_reading::word(s, at);
+    let steps = replay_reading::word(s, v.at);
+    let seed = replay_reading::eight(s, steps.at);
+    let a = random_walk::random_walk(
         t,
         VertexIndex(v.value),
         steps.value as usize,
         seed.value,
         out,
     );
-    judge::listing(s, seed.at, a, out, 18, tally)
+    replay_judge::listing(s, seed.at, a, out, 18, tally)
 }
 
 // The record at `at`, and the place after it.
 fn record(s: &[u8], at: usize, t: &mut [u32], out: &mut [u32], tally: &mut [u32]) -> usize {
-    let first = reading::byte(s, at);
+    let first = replay_reading::byte(s, at);
     let kind = first.value;
     match kind {
         32 => whole(s, first.at, t, out, tally),
         33 => of_vertex(s, first.at, t, out, tally),
         34 => of_pair(s, first.at, t, out, tally),
         35 => walked(s, first.at, t, out, tally),
-        _ => tables::record(s, kind, first.at, t, tally),
+        _ => replay_tables::record(s, kind, first.at, t, tally),
     }
 }
 
@@ -88,7 +84,7 @@ fn records(s: &[u8], t: &mut [u32], out: &mut [u32], tally: &mut [u32]) -> usize
 }
 
 fn lines(tally: &[u32]) {
-    tables::lines(tally);
+    replay_tables::lines(tally);
     tally::line(b"is_connected", 7, tally);
     tally::line(b"is_acyclic", 8, tally);
     tally::line(b"topological_sort", 9, tally);
@@ -110,11 +106,11 @@ fn run(s: &[u8]) {
     let mut tally = [0u32; 64];
     let end = records(s, &mut t, &mut out, &mut tally);
     lines(&tally);
-    tables::say_end(end);
+    replay_tables::say_end(end);
 }
 
 fn main() {
     let mut bytes = [0u8; 262144];
-    let n = reading::file(&mut bytes);
+    let n = replay_reading::file(&mut bytes);
     run(&bytes[..n]);
 }

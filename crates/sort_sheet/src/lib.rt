@@ -18,11 +18,11 @@ fn sort_through(t: &mut [u32], text: &[u8], order: &mut [u32]) -> Answer
     requires { ⌜ length (now t) ≡ size limit ⌝ }
     ensures { λ r. ⌜ result r (now (order .exit)) ≡ sheetResult (now (text .entry)) (now (order .entry)) ⌝ }
 {
-    let a = reader::read_frames(t, text);
+    let a = read_frames::read_frames(t, text);
     if !is_done(a) {
         return a;
     }
-    structural::topological_sort(t, order)
+    topological_sort::topological_sort(t, order)
 }
 
 // Reads the text and sorts what stands in it.

@@ -23,7 +23,7 @@ fn place(t: &[u32], x: u32) -> usize
     requires { ⌜ isLive (liveVertices (read limit (now t))) x ≡ true ⌝ }
     ensures { λ r. ⌜ position x (liveVertices (read limit (now (t .entry)))) ≡ At r ⌝ }
 {
-    let f = layout::find_vertex(t, VertexIndex(x));
+    let f = find::find_vertex(t, VertexIndex(x));
     match f {
         Found::Nothing => 0,
         Found::At(i) => i,

@@ -7,5 +7,5 @@ ghost use Rattle.layout.specs.WellFormed.{wellFormed};
 pub extern "C" fn timed_well_formed(t: &[u32]) -> bool
     ensures { λ r. ⌜ r ≡ wellFormed limit (now (t .entry)) ⌝ }
 {
-    formed::well_formed(t)
+    well_formed::well_formed(t)
 }

@@ -41,7 +41,7 @@ fn reached_from(t: &[u32], i: usize, from: VertexIndex, to: VertexIndex) -> Answ
     requires { ⌜ position (from .0) (liveVertices (read limit (now t))) ≡ Found.At i ⌝ }
     ensures { λ r. ⌜ result r [] ≡ reachableResult (from .0) (to .0) (read limit (now (t .entry))) ⌝ }
 {
-    let f = layout::find_vertex(t, to);
+    let f = find::find_vertex(t, to);
     match f {
         Found::Nothing => Answer::VertexNotLive(to),
         Found::At(j) => Answer::Done(reached(t, i, j)),
@@ -52,7 +52,7 @@ fn reachable(t: &[u32], from: VertexIndex, to: VertexIndex) -> Answer
     requires { ⌜ Formed limit (now t) ⌝ }
     ensures { λ r. ⌜ result r [] ≡ reachableResult (from .0) (to .0) (read limit (now (t .entry))) ⌝ }
 {
-    let f = layout::find_vertex(t, from);
+    let f = find::find_vertex(t, from);
     match f {
         Found::Nothing => Answer::VertexNotLive(from),
         Found::At(i) => reached_from(t, i, from, to),
@@ -63,7 +63,7 @@ fn reachable(t: &[u32], from: VertexIndex, to: VertexIndex) -> Answer
 pub fn is_reachable(t: &[u32], from: VertexIndex, to: VertexIndex) -> Answer
     ensures { λ r. ⌜ result r [] ≡ onFormed (now (t .entry)) [] (reachableResult (from .0) (to .0)) ⌝ }
 {
-    if !formed::well_formed(t) {
+    if !well_formed::well_formed(t) {
         return Answer::NotWellFormed;
     }
     reachable(t, from, to)
@@ -98,7 +98,7 @@ fn traverse(t: &[u32], v: VertexIndex, how: Order, out: &mut [u32]) -> Answer
     requires { ⌜ Formed limit (now t) ⌝ }
     ensures { λ r. ⌜ result r (now (out .exit)) ≡ traversalResult how (v .0) (now (out .entry)) (read limit (now (t .entry))) ⌝ }
 {
-    let f = layout::find_vertex(t, v);
+    let f = find::find_vertex(t, v);
     match f {
         Found::Nothing => Answer::VertexNotLive(v),
         Found::At(i) => list_from(t, i, how, out),
@@ -109,7 +109,7 @@ fn traverse(t: &[u32], v: VertexIndex, how: Order, out: &mut [u32]) -> Answer
 pub fn get_bfs(t: &[u32], v: VertexIndex, out: &mut [u32]) -> Answer
     ensures { λ r. ⌜ result r (now (out .exit)) ≡ onFormed (now (t .entry)) (now (out .entry)) (traversalResult Order.BreadthFirst (v .0) (now (out .entry))) ⌝ }
 {
-    if !formed::well_formed(t) {
+    if !well_formed::well_formed(t) {
         return Answer::NotWellFormed;
     }
     traverse(t, v, Order::BreadthFirst, out)
@@ -119,7 +119,7 @@ pub fn get_bfs(t: &[u32], v: VertexIndex, out: &mut [u32]) -> Answer
 pub fn get_dfs(t: &[u32], v: VertexIndex, out: &mut [u32]) -> Answer
     ensures { λ r. ⌜ result r (now (out .exit)) ≡ onFormed (now (t .entry)) (now (out .entry)) (traversalResult Order.DepthFirst (v .0) (now (out .entry))) ⌝ }
 {
-    if !formed::well_formed(t) {
+    if !well_formed::well_formed(t) {
         return Answer::NotWellFormed;
     }
     traverse(t, v, Order::DepthFirst, out)

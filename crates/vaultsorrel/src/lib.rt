@@ -29,7 +29,7 @@ use layout::VertexIndex;
 pub extern "C" fn vs_add_vertex(t: &mut [u32], weight: u32) -> Reply
     ensures { λ r. ⌜ replied r (now (t .exit)) ≡ onFormed (now (t .entry)) (now (t .entry)) (addVertexResult weight (now (t .entry))) ⌝ }
 {
-    layout::reply_of(edits::add_vertex::add_vertex(t, weight))
+    layout::reply_of(add_vertex::add_vertex(t, weight))
 }
 
 // Adds a hyperedge with the next number, or finds the first identical one; the answer tells the number.
@@ -37,7 +37,7 @@ pub extern "C" fn vs_add_vertex(t: &mut [u32], weight: u32) -> Reply
 pub extern "C" fn vs_add_hyperedge(t: &mut [u32], members: &[u32], weight: u32) -> Reply
     ensures { λ r. ⌜ replied r (now (t .exit)) ≡ onFormed (now (t .entry)) (now (t .entry)) (addHyperedgeResult (now (members .entry)) weight (now (t .entry))) ⌝ }
 {
-    layout::reply_of(edits::add_hyperedge::add_hyperedge(t, members, weight))
+    layout::reply_of(add_hyperedge::add_hyperedge(t, members, weight))
 }
 
 // Gives the hyperedge the new member list; its weight stays.
@@ -49,21 +49,21 @@ pub extern "C" fn vs_update_hyperedge_vertices(
 ) -> Reply
     ensures { λ r. ⌜ replied r (now (t .exit)) ≡ onFormed (now (t .entry)) (now (t .entry)) (updateResult (e .0) (now (members .entry)) (now (t .entry))) ⌝ }
 {
-    layout::reply_of(edits::update_hyperedge_vertices::update_hyperedge_vertices(t, e, members))
+    layout::reply_of(update_hyperedge_vertices::update_hyperedge_vertices(t, e, members))
 }
 
 #[no_mangle]
 pub extern "C" fn vs_remove_vertex(t: &mut [u32], v: VertexIndex) -> Reply
     ensures { λ r. ⌜ replied r (now (t .exit)) ≡ onFormed (now (t .entry)) (now (t .entry)) (removeVertexResult (v .0) (now (t .entry))) ⌝ }
 {
-    layout::reply_of(edits::remove_vertex::remove_vertex(t, v))
+    layout::reply_of(remove_vertex::remove_vertex(t, v))
 }
 
 #[no_mangle]
 pub extern "C" fn vs_remove_hyperedge(t: &mut [u32], e: HyperedgeIndex) -> Reply
     ensures { λ r. ⌜ replied r (now (t .exit)) ≡ onFormed (now (t .entry)) (now (t .entry)) (removeHyperedgeResult (e .0) (now (t .entry))) ⌝ }
 {
-    layout::reply_of(edits::remove_hyperedge::remove_hyperedge(t, e))
+    layout::reply_of(remove_hyperedge::remove_hyperedge(t, e))
 }
 
 // Zeroes every word.
@@ -71,7 +71,7 @@ pub extern "C" fn vs_remove_hyperedge(t: &mut [u32], e: HyperedgeIndex) -> Reply
 pub extern "C" fn vs_clear(t: &mut [u32]) -> Reply
     ensures { λ r. ⌜ replied r (now (t .exit)) ≡ clearResult (now (t .entry)) ⌝ }
 {
-    layout::reply_of(edits::hypergraph::clear(t))
+    layout::reply_of(hypergraph::clear(t))
 }
 
 // Whether no vertex is live: then no hyperedge is either.
@@ -79,7 +79,7 @@ pub extern "C" fn vs_clear(t: &mut [u32]) -> Reply
 pub extern "C" fn vs_is_empty(t: &[u32]) -> Reply
     ensures { λ r. ⌜ replied r [] ≡ onFormed (now (t .entry)) [] emptyResult ⌝ }
 {
-    layout::reply_of(edits::hypergraph::is_empty(t))
+    layout::reply_of(hypergraph::is_empty(t))
 }
 
 // ---- Lookups
@@ -89,7 +89,7 @@ pub extern "C" fn vs_is_empty(t: &[u32]) -> Reply
 pub extern "C" fn vs_get_adjacent_vertices_from(t: &[u32], v: VertexIndex, out: &mut [u32]) -> Reply
     ensures { λ r. ⌜ replied r (now (out .exit)) ≡ onFormed (now (t .entry)) (now (out .entry)) (relatedResult From (v .0) (now (out .entry))) ⌝ }
 {
-    layout::reply_of(lookups::get_adjacent_vertices_from(t, v, out))
+    layout::reply_of(adjacent::get_adjacent_vertices_from(t, v, out))
 }
 
 // The vertices from which a step leads to the vertex.
@@ -97,7 +97,7 @@ pub extern "C" fn vs_get_adjacent_vertices_from(t: &[u32], v: VertexIndex, out: 
 pub extern "C" fn vs_get_adjacent_vertices_to(t: &[u32], v: VertexIndex, out: &mut [u32]) -> Reply
     ensures { λ r. ⌜ replied r (now (out .exit)) ≡ onFormed (now (t .entry)) (now (out .entry)) (relatedResult To (v .0) (now (out .entry))) ⌝ }
 {
-    layout::reply_of(lookups::get_adjacent_vertices_to(t, v, out))
+    layout::reply_of(adjacent::get_adjacent_vertices_to(t, v, out))
 }
 
 // The vertices that a step from the vertex leads to, each with the hyperedges that step there.
@@ -109,7 +109,7 @@ pub extern "C" fn vs_get_full_adjacent_vertices_from(
 ) -> Reply
     ensures { λ r. ⌜ replied r (now (out .exit)) ≡ onFormed (now (t .entry)) (now (out .entry)) (fullAdjacentResult false (v .0) (now (out .entry))) ⌝ }
 {
-    layout::reply_of(lookups::get_full_adjacent_vertices_from(t, v, out))
+    layout::reply_of(full_adjacent::get_full_adjacent_vertices_from(t, v, out))
 }
 
 // The vertices from which a step leads to the vertex, each with the hyperedges that step so.
@@ -121,7 +121,7 @@ pub extern "C" fn vs_get_full_adjacent_vertices_to(
 ) -> Reply
     ensures { λ r. ⌜ replied r (now (out .exit)) ≡ onFormed (now (t .entry)) (now (out .entry)) (fullAdjacentResult true (v .0) (now (out .entry))) ⌝ }
 {
-    layout::reply_of(lookups::get_full_adjacent_vertices_to(t, v, out))
+    layout::reply_of(full_adjacent::get_full_adjacent_vertices_to(t, v, out))
 }
 
 // The places at which the vertex is stepped to.
@@ -129,7 +129,7 @@ pub extern "C" fn vs_get_full_adjacent_vertices_to(
 pub extern "C" fn vs_get_vertex_degree_in(t: &[u32], v: VertexIndex) -> Reply
     ensures { λ r. ⌜ replied r [] ≡ onFormed (now (t .entry)) [] (degreeResult true (v .0)) ⌝ }
 {
-    layout::reply_of(lookups::get_vertex_degree_in(t, v))
+    layout::reply_of(degrees::get_vertex_degree_in(t, v))
 }
 
 // The places at which the vertex is stepped from.
@@ -137,7 +137,7 @@ pub extern "C" fn vs_get_vertex_degree_in(t: &[u32], v: VertexIndex) -> Reply
 pub extern "C" fn vs_get_vertex_degree_out(t: &[u32], v: VertexIndex) -> Reply
     ensures { λ r. ⌜ replied r [] ≡ onFormed (now (t .entry)) [] (degreeResult false (v .0)) ⌝ }
 {
-    layout::reply_of(lookups::get_vertex_degree_out(t, v))
+    layout::reply_of(degrees::get_vertex_degree_out(t, v))
 }
 
 // The hyperedges that step from one vertex to another, once for each place. The second vertex need not be live.
@@ -150,7 +150,7 @@ pub extern "C" fn vs_get_hyperedges_connecting(
 ) -> Reply
     ensures { λ r. ⌜ replied r (now (out .exit)) ≡ onFormed (now (t .entry)) (now (out .entry)) (connectingResult (from .0) (to .0) (now (out .entry))) ⌝ }
 {
-    layout::reply_of(lookups::get_hyperedges_connecting(t, from, to, out))
+    layout::reply_of(hyperedge_listings::get_hyperedges_connecting(t, from, to, out))
 }
 
 // The vertices that every hyperedge of the list has as a member.
@@ -162,7 +162,7 @@ pub extern "C" fn vs_get_hyperedges_intersections(
 ) -> Reply
     ensures { λ r. ⌜ replied r (now (out .exit)) ≡ onFormed (now (t .entry)) (now (out .entry)) (intersectionsResult (now (hyperedges .entry)) (now (out .entry))) ⌝ }
 {
-    layout::reply_of(lookups::get_hyperedges_intersections(t, hyperedges, out))
+    layout::reply_of(intersections::get_hyperedges_intersections(t, hyperedges, out))
 }
 
 // The hyperedges of a weight.
@@ -170,7 +170,7 @@ pub extern "C" fn vs_get_hyperedges_intersections(
 pub extern "C" fn vs_find_hyperedges_by_weight(t: &[u32], weight: u32, out: &mut [u32]) -> Reply
     ensures { λ r. ⌜ replied r (now (out .exit)) ≡ onFormed (now (t .entry)) (now (out .entry)) (weighingResult weight (now (out .entry))) ⌝ }
 {
-    layout::reply_of(lookups::find_hyperedges_by_weight(t, weight, out))
+    layout::reply_of(hyperedge_listings::find_hyperedges_by_weight(t, weight, out))
 }
 
 // The lists that hold the vertex, each as length and members.
@@ -178,7 +178,7 @@ pub extern "C" fn vs_find_hyperedges_by_weight(t: &[u32], weight: u32, out: &mut
 pub extern "C" fn vs_get_full_vertex_hyperedges(t: &[u32], v: VertexIndex, out: &mut [u32]) -> Reply
     ensures { λ r. ⌜ replied r (now (out .exit)) ≡ onFormed (now (t .entry)) (now (out .entry)) (fullHyperedgesResult (v .0) (now (out .entry))) ⌝ }
 {
-    layout::reply_of(lookups::get_full_vertex_hyperedges(t, v, out))
+    layout::reply_of(hyperedge_listings::get_full_vertex_hyperedges(t, v, out))
 }
 
 // Whether a vertex has the weight.
@@ -186,7 +186,7 @@ pub extern "C" fn vs_get_full_vertex_hyperedges(t: &[u32], v: VertexIndex, out: 
 pub extern "C" fn vs_contains_vertex(t: &[u32], weight: u32) -> Reply
     ensures { λ r. ⌜ replied r [] ≡ onFormed (now (t .entry)) [] (containsResult weight) ⌝ }
 {
-    layout::reply_of(lookups::contains_vertex(t, weight))
+    layout::reply_of(vertex_weights::contains_vertex(t, weight))
 }
 
 // The vertices that stand with the vertex in some list.
@@ -194,7 +194,7 @@ pub extern "C" fn vs_contains_vertex(t: &[u32], weight: u32) -> Reply
 pub extern "C" fn vs_get_vertex_neighborhood(t: &[u32], v: VertexIndex, out: &mut [u32]) -> Reply
     ensures { λ r. ⌜ replied r (now (out .exit)) ≡ onFormed (now (t .entry)) (now (out .entry)) (relatedResult Around (v .0) (now (out .entry))) ⌝ }
 {
-    layout::reply_of(lookups::get_vertex_neighborhood(t, v, out))
+    layout::reply_of(adjacent::get_vertex_neighborhood(t, v, out))
 }
 
 // The vertices of a weight.
@@ -202,7 +202,7 @@ pub extern "C" fn vs_get_vertex_neighborhood(t: &[u32], v: VertexIndex, out: &mu
 pub extern "C" fn vs_get_vertex_index(t: &[u32], weight: u32, out: &mut [u32]) -> Reply
     ensures { λ r. ⌜ replied r (now (out .exit)) ≡ onFormed (now (t .entry)) (now (out .entry)) (vertexIndexResult weight (now (out .entry))) ⌝ }
 {
-    layout::reply_of(lookups::get_vertex_index(t, weight, out))
+    layout::reply_of(vertex_weights::get_vertex_index(t, weight, out))
 }
 
 // ---- Traversal
@@ -238,7 +238,7 @@ pub extern "C" fn vs_is_reachable(t: &[u32], from: VertexIndex, to: VertexIndex)
 pub extern "C" fn vs_is_connected(t: &[u32]) -> Reply
     ensures { λ r. ⌜ replied r [] ≡ onFormed (now (t .entry)) [] connectedResult ⌝ }
 {
-    layout::reply_of(structural::is_connected(t))
+    layout::reply_of(component_listings::is_connected(t))
 }
 
 // Whether no steps form a closed walk: 1 or 0.
@@ -246,7 +246,7 @@ pub extern "C" fn vs_is_connected(t: &[u32]) -> Reply
 pub extern "C" fn vs_is_acyclic(t: &[u32]) -> Reply
     ensures { λ r. ⌜ replied r [] ≡ onFormed (now (t .entry)) [] acyclicResult ⌝ }
 {
-    layout::reply_of(structural::is_acyclic(t))
+    layout::reply_of(topological_sort::is_acyclic(t))
 }
 
 // Lists the pairs x, y with x not y and y reachable from x, sorted, two words each.
@@ -254,7 +254,7 @@ pub extern "C" fn vs_is_acyclic(t: &[u32]) -> Reply
 pub extern "C" fn vs_get_transitive_closure(t: &[u32], out: &mut [u32]) -> Reply
     ensures { λ r. ⌜ replied r (now (out .exit)) ≡ onFormed (now (t .entry)) (now (out .entry)) (closureResult (now (out .entry))) ⌝ }
 {
-    layout::reply_of(structural::get_transitive_closure(t, out))
+    layout::reply_of(component_listings::get_transitive_closure(t, out))
 }
 
 // Lists the live vertices in the smallest order in which every step goes forward.
@@ -262,7 +262,7 @@ pub extern "C" fn vs_get_transitive_closure(t: &[u32], out: &mut [u32]) -> Reply
 pub extern "C" fn vs_topological_sort(t: &[u32], out: &mut [u32]) -> Reply
     ensures { λ r. ⌜ replied r (now (out .exit)) ≡ onFormed (now (t .entry)) (now (out .entry)) (sortResult (now (out .entry))) ⌝ }
 {
-    layout::reply_of(structural::topological_sort(t, out))
+    layout::reply_of(topological_sort::topological_sort(t, out))
 }
 
 // Lists the strong components, latest-finished vertex first, each as its length and its members.
@@ -270,7 +270,7 @@ pub extern "C" fn vs_topological_sort(t: &[u32], out: &mut [u32]) -> Reply
 pub extern "C" fn vs_strongly_connected_components(t: &[u32], out: &mut [u32]) -> Reply
     ensures { λ r. ⌜ replied r (now (out .exit)) ≡ onFormed (now (t .entry)) (now (out .entry)) (strongComponentsResult (now (out .entry))) ⌝ }
 {
-    layout::reply_of(structural::strongly_connected_components(t, out))
+    layout::reply_of(component_listings::strongly_connected_components(t, out))
 }
 
 // Lists the connected components, ordered by smallest member, each as its length and its members.
@@ -278,7 +278,7 @@ pub extern "C" fn vs_strongly_connected_components(t: &[u32], out: &mut [u32]) -
 pub extern "C" fn vs_connected_components(t: &[u32], out: &mut [u32]) -> Reply
     ensures { λ r. ⌜ replied r (now (out .exit)) ≡ onFormed (now (t .entry)) (now (out .entry)) (connectedComponentsResult (now (out .entry))) ⌝ }
 {
-    layout::reply_of(structural::connected_components(t, out))
+    layout::reply_of(component_listings::connected_components(t, out))
 }
 
 // ---- Properties
@@ -288,7 +288,7 @@ pub extern "C" fn vs_connected_components(t: &[u32], out: &mut [u32]) -> Reply
 pub extern "C" fn vs_get_orphan_vertices(t: &[u32], out: &mut [u32]) -> Reply
     ensures { λ r. ⌜ replied r (now (out .exit)) ≡ onFormed (now (t .entry)) (now (out .entry)) (orphanVerticesResult (now (out .entry))) ⌝ }
 {
-    layout::reply_of(properties::get_orphan_vertices(t, out))
+    layout::reply_of(orphans::get_orphan_vertices(t, out))
 }
 
 // The hyperedges without members: a well-formed table has none.
@@ -304,7 +304,7 @@ pub extern "C" fn vs_get_orphan_hyperedges(t: &[u32], out: &mut [u32]) -> Reply
 pub extern "C" fn vs_get_endpoints(t: &[u32], out: &mut [u32]) -> Reply
     ensures { λ r. ⌜ replied r (now (out .exit)) ≡ onFormed (now (t .entry)) (now (out .entry)) (endpointsResult (now (out .entry))) ⌝ }
 {
-    layout::reply_of(properties::get_endpoints(t, out))
+    layout::reply_of(orphans::get_endpoints(t, out))
 }
 
 // The pairs of hyperedges of which the first's distinct members are strictly within the second's.
@@ -312,7 +312,7 @@ pub extern "C" fn vs_get_endpoints(t: &[u32], out: &mut [u32]) -> Reply
 pub extern "C" fn vs_get_inclusions(t: &[u32], out: &mut [u32]) -> Reply
     ensures { λ r. ⌜ replied r (now (out .exit)) ≡ onFormed (now (t .entry)) (now (out .entry)) (inclusionsResult (now (out .entry))) ⌝ }
 {
-    layout::reply_of(properties::get_inclusions(t, out))
+    layout::reply_of(inclusions::get_inclusions(t, out))
 }
 
 // The vertices without which two others, linked through co-membership, no longer are.
@@ -328,7 +328,7 @@ pub extern "C" fn vs_find_cut_vertices(t: &[u32], out: &mut [u32]) -> Reply
 pub extern "C" fn vs_get_nestedness_profile(t: &[u32], out: &mut [u32]) -> Reply
     ensures { λ r. ⌜ replied r (now (out .exit)) ≡ onFormed (now (t .entry)) (now (out .entry)) (nestednessResult (now (out .entry))) ⌝ }
 {
-    layout::reply_of(properties::get_nestedness_profile(t, out))
+    layout::reply_of(nestedness::get_nestedness_profile(t, out))
 }
 
 // Whether every hyperedge has k members, repeats counted.
@@ -351,7 +351,7 @@ pub extern "C" fn vs_get_dijkstra_connections_with_cost(
 ) -> Reply
     ensures { λ r. ⌜ replied r (now (out .exit)) ≡ onFormed (now (t .entry)) (now (out .entry)) (pairResult (from .0) (to .0) (now (out .entry))) ⌝ }
 {
-    layout::reply_of(paths::get_dijkstra_connections_with_cost(t, from, to, out))
+    layout::reply_of(dijkstra_connections::get_dijkstra_connections_with_cost(t, from, to, out))
 }
 
 // Lists each vertex that is reached from `from` with its cost, ascending: vertex, low word, high word.
@@ -359,7 +359,7 @@ pub extern "C" fn vs_get_dijkstra_connections_with_cost(
 pub extern "C" fn vs_get_dijkstra_from(t: &[u32], from: VertexIndex, out: &mut [u32]) -> Reply
     ensures { λ r. ⌜ replied r (now (out .exit)) ≡ onFormed (now (t .entry)) (now (out .entry)) (fromResult (from .0) (now (out .entry))) ⌝ }
 {
-    layout::reply_of(paths::get_dijkstra_from(t, from, out))
+    layout::reply_of(dijkstra_from::get_dijkstra_from(t, from, out))
 }
 
 // ---- The walk
@@ -375,7 +375,7 @@ pub extern "C" fn vs_random_walk(
 ) -> Reply
     ensures { λ r. ⌜ replied r (now (out .exit)) ≡ onFormed (now (t .entry)) (now (out .entry)) (walkResult (start .0) steps seed (now (out .entry))) ⌝ }
 {
-    layout::reply_of(walk::random_walk(t, start, steps, seed, out))
+    layout::reply_of(random_walk::random_walk(t, start, steps, seed, out))
 }
 
 // ---- Frames
@@ -385,7 +385,7 @@ pub extern "C" fn vs_random_walk(
 pub extern "C" fn vs_write_frames(t: &[u32], text: &mut [u8]) -> Reply
     ensures { λ r. ⌜ replied r (now (text .exit)) ≡ onFormed (now (t .entry)) (now (text .entry)) (writeResult (now (text .entry))) ⌝ }
 {
-    layout::reply_of(frames::write_frames(t, text))
+    layout::reply_of(write_frames::write_frames(t, text))
 }
 
 // Reads frame text into a table, or names the first line that no written text could have there.
@@ -393,5 +393,5 @@ pub extern "C" fn vs_write_frames(t: &[u32], text: &mut [u8]) -> Reply
 pub extern "C" fn vs_read_frames(t: &mut [u32], text: &[u8]) -> Reply
     ensures { λ r. ⌜ replied r (now (t .exit)) ≡ readResult (now (text .entry)) (now (t .entry)) ⌝ }
 {
-    layout::reply_of(reader::read_frames(t, text))
+    layout::reply_of(read_frames::read_frames(t, text))
 }

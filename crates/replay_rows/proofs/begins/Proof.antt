@@ -1,0 +1,20 @@
+-- `replay_rows::begins` meets its contract. Assumes nothing.
+use Rattle.replay.proofs.Pathway.{begins-then, begins-else}
+use borrow.Author.Needs.{needs}
+use Rattle.replay_rows.proofs.begins.Statement.{statement}
+use Rattle.replay_rows.proofs.begins.Tie as tie
+
+word-of-requires : tie.Need-word-of-requires
+word-of-requires c κs = search needs
+
+word-of-requires-2 : tie.Need-word-of-requires-2
+word-of-requires-2 c κs = search needs
+
+returns : tie.Need-returns
+returns c = search begins-then
+
+returns-2 : tie.Need-returns-2
+returns-2 c = search begins-else
+
+pub begins-spec : {M : Type 1} → statement M
+begins-spec = tie.close (tie.spec word-of-requires word-of-requires-2 returns returns-2)
