@@ -1,4 +1,4 @@
-// Cut vertices: each vertex without which two others are no longer linked through co-membership.
+// Which vertices stand together in a list, as a matrix of marks.
 ghost use mathlib.Core.Path.{_≡_};
 ghost use mathlib.Core.List.{map};
 ghost use Prim.Native.Nat.{_+_, _<_};

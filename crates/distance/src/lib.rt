@@ -1,4 +1,4 @@
-// The distance: the least total of the steps' costs, and the fewest steps of that total, from a start to each number; and the best walk between two.
+// The nearest open number, by blocks with a least key.
 pub mod blocks;
 
 // Whether there is a walk; its steps, and the total of their costs.

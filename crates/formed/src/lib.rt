@@ -1,4 +1,4 @@
-// The test of a table, for a slice of any length and content.
+// The shape of a table: its counts, its unused words, and numbers that climb; for a slice of any length and content.
 ghost use mathlib.Core.Path.{_≡_};
 ghost use Prim.Native.Nat.{_+_, _*_, _<_, _≤_};
 ghost use lib.ListN.{length};

@@ -1,4 +1,4 @@
-// Lookups: what a table's lists say of a vertex, of a pair of vertices, of a weight or of some hyperedges.
+// What the lookups share: how a hyperedge relates a vertex to another, and what a listing has of a hyperedge.
 ghost use mathlib.Core.Path.{_≡_};
 ghost use Prim.Native.Nat.{_+_, _<_};
 ghost use lib.ListN.{length};

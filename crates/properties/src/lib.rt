@@ -1,4 +1,4 @@
-// Properties: orphans, endpoints, uniform size, inclusions, cut vertices and the profile of nestedness.
+// Properties of a whole table: uniform size, orphan hyperedges, cut vertices.
 ghost use mathlib.Core.Path.{_≡_};
 ghost use mathlib.Core.List.{[]};
 ghost use Rattle.layout.specs.Layout.{limit, read};

@@ -1,1 +1,1 @@
-// Structure: the sort, and whether there is one; connected and strong components; the closure.
+// The definitions and laws of structure: the sort, components, the closure.

@@ -1,4 +1,4 @@
-// The random walk.
+// The draws of the random walk, and where it stands.
 ghost use mathlib.Core.Path.{_≡_};
 ghost use Prim.Native.Nat.{_≤_, _^_};
 ghost use lib.Ieee.{lt};
