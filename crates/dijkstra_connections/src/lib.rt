@@ -149,7 +149,7 @@ fn list_walk(
 }
 
 // The best walk from record i to record j.
-pub fn list_pair(t: &[u32], i: usize, j: usize, out: &mut [u32]) -> Answer
+fn list_pair(t: &[u32], i: usize, j: usize, out: &mut [u32]) -> Answer
     requires { ⌜ Formed limit (now t) ⌝ }
     requires { ⌜ (i < vertexCount (now t)) × (j < vertexCount (now t)) ⌝ }
     ensures { λ r. ⌜ result r (now (out .exit)) ≡ listed (pairBetween (read limit (now (t .entry))) i j) (now (out .entry)) ⌝ }

@@ -94,7 +94,7 @@ fn put_costs(t: &[u32], n: usize, m: &[u8; 256], d: &[u64; 256], out: &mut [u32]
 }
 
 // The costs from record i.
-pub fn list_costs(t: &[u32], i: usize, out: &mut [u32]) -> Answer
+fn list_costs(t: &[u32], i: usize, out: &mut [u32]) -> Answer
     requires { ⌜ Formed limit (now t) ⌝ }
     requires { ⌜ i < vertexCount (now t) ⌝ }
     ensures { λ r. ⌜ result r (now (out .exit)) ≡ listed (costsFrom (read limit (now (t .entry))) (numberOf (read limit (now (t .entry))) i)) (now (out .entry)) ⌝ }

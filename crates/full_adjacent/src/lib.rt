@@ -92,7 +92,7 @@ fn list_full(t: &[u32], v: u32, arriving: bool, out: &mut [u32]) -> Answer
 }
 
 // The adjacent vertices with their hyperedges, where the vertex is live.
-pub fn list_full_adjacent(t: &[u32], v: VertexIndex, arriving: bool, out: &mut [u32]) -> Answer
+fn list_full_adjacent(t: &[u32], v: VertexIndex, arriving: bool, out: &mut [u32]) -> Answer
     requires { ⌜ Formed limit (now t) ⌝ }
     ensures { λ r. ⌜ result r (now (out .exit)) ≡ fullAdjacentResult arriving (v .0) (now (out .entry)) (read limit (now (t .entry))) ⌝ }
 {

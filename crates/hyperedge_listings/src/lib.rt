@@ -12,7 +12,7 @@ use layout::Found;
 use layout::VertexIndex;
 use lookups::Listing;
 
-pub fn list_blocks(t: &[u32], q: Listing, out: &mut [u32]) -> Answer
+fn list_blocks(t: &[u32], q: Listing, out: &mut [u32]) -> Answer
     requires { ⌜ Formed limit (now t) ⌝ }
     ensures { λ r. ⌜ result r (now (out .exit)) ≡ listed (listing q (read limit (now (t .entry)))) (now (out .entry)) ⌝ }
 {
@@ -25,7 +25,7 @@ pub fn list_blocks(t: &[u32], q: Listing, out: &mut [u32]) -> Answer
 }
 
 // The listing, where the vertex is live.
-pub fn list_of_vertex(t: &[u32], v: VertexIndex, q: Listing, out: &mut [u32]) -> Answer
+fn list_of_vertex(t: &[u32], v: VertexIndex, q: Listing, out: &mut [u32]) -> Answer
     requires { ⌜ Formed limit (now t) ⌝ }
     ensures { λ r. ⌜ result r (now (out .exit)) ≡ listingResult (v .0) q (now (out .entry)) (read limit (now (t .entry))) ⌝ }
 {

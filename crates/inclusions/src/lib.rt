@@ -114,7 +114,7 @@ fn write_pairs(t: &[u32], m: &[bool; 65536], sizes: &[usize; 256], out: &mut [u3
     }
 }
 
-pub fn list_inclusions(t: &[u32], out: &mut [u32]) -> Answer
+fn list_inclusions(t: &[u32], out: &mut [u32]) -> Answer
     requires { ⌜ Formed limit (now t) ⌝ }
     ensures { λ r. ⌜ result r (now (out .exit)) ≡ inclusionsResult (now (out .entry)) (read limit (now (t .entry))) ⌝ }
 {

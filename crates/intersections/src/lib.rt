@@ -84,7 +84,7 @@ fn shared_marks(t: &[u32], hyperedges: &[u32]) -> [bool; 256]
 }
 
 // Lists the vertices that the hyperedges of the list share.
-pub fn list_shared(t: &[u32], hyperedges: &[u32], out: &mut [u32]) -> Answer
+fn list_shared(t: &[u32], hyperedges: &[u32], out: &mut [u32]) -> Answer
     requires { ⌜ Formed limit (now t) ⌝ }
     ensures { λ r. ⌜ result r (now (out .exit)) ≡ intersectionsResult (now (hyperedges .entry)) (now (out .entry)) (read limit (now (t .entry))) ⌝ }
 {

@@ -177,7 +177,7 @@ fn write_rows(
     }
 }
 
-pub fn list_profile(t: &[u32], out: &mut [u32]) -> Answer
+fn list_profile(t: &[u32], out: &mut [u32]) -> Answer
     requires { ⌜ Formed limit (now t) ⌝ }
     ensures { λ r. ⌜ result r (now (out .exit)) ≡ nestednessResult (now (out .entry)) (read limit (now (t .entry))) ⌝ }
 {

@@ -94,7 +94,7 @@ fn read_records(words: &mut [u32], values: &[u16; 256], text: &[u8]) -> usize
 }
 
 // The number of the faulty line, or 0; then the words are those of the text's content.
-pub fn read_text(words: &mut [u32], text: &[u8]) -> usize
+fn read_text(words: &mut [u32], text: &[u8]) -> usize
     requires { ⌜ now words ≡ blank (size limit) ⌝ }
     ensures { λ r. ⌜ TextRead (now (text .entry)) (now (words .exit)) r ⌝ }
 {
