@@ -5,7 +5,7 @@ ghost use lib.ListN.{length};
 ghost use Rattle.lists.specs.Lists.{facing};
 ghost use Rattle.layout.specs.Content.{liveVertices};
 ghost use Rattle.layout.specs.Layout.{limit, vertexLimit, hyperedgeCount, hyperedgeAt, read};
-ghost use Rattle.layout.specs.WellFormed.{Formed};
+ghost use Rattle.layout.specs.Inner.{Formed};
 ghost use Rattle.layout.specs.Steps.{stepsOf, isStep};
 ghost use Rattle.layout.specs.Answers.{result, onFormed};
 ghost use Rattle.lookups.specs.Lookups.{relates, isRelated};

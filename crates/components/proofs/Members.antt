@@ -9,7 +9,8 @@ use native.Mathlib.Omega.{arith}
 use lib.ListN.{length, getD, length-append, List·getD-append}
 use lib.Seq.{getD-append-seam}
 use Rattle.lists.specs.Tests.{chosen}
-use Rattle.lists.specs.Lists.{memb, Below, Ascending, turned}
+use Rattle.lists.specs.Lists.{memb, Ascending, turned}
+use Rattle.lists.specs.Inner.{Below}
 use Rattle.lists.proofs.Cases.{on, on-same, on-below, clash}
 use Rattle.lists.proofs.Maps.{map-length, map-snoc}
 use Rattle.lists.proofs.Memb.{memb-snoc, memb-snoc-self, memb-left, memb-getD, below-memb}

@@ -10,7 +10,8 @@ use lib.Dec.{eqb}
 use lib.ListN.{length, getD, length-append, List·getD-append}
 use lib.Seq.{getD-append-seam}
 use borrow.Author.Tests.{eqb-true}
-use Rattle.lists.specs.Lists.{memb, any, Below, turned}
+use Rattle.lists.specs.Lists.{memb, any, turned}
+use Rattle.lists.specs.Inner.{Below}
 use Rattle.lists.proofs.Cases.{on, on-same, clash, or-true, or-right}
 use Rattle.lists.proofs.Chosen.{chosen-ext}
 use Rattle.lists.proofs.Memb.{below-snoc}

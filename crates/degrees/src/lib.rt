@@ -3,7 +3,7 @@ ghost use mathlib.Core.Path.{_≡_};
 ghost use mathlib.Core.Bool.{true, false};
 ghost use mathlib.Core.List.{[]};
 ghost use Rattle.layout.specs.Layout.{limit, read};
-ghost use Rattle.layout.specs.WellFormed.{Formed};
+ghost use Rattle.layout.specs.Inner.{Formed};
 ghost use Rattle.layout.specs.Answers.{result, onFormed};
 ghost use Rattle.lookups.specs.Lookups.{hasEnd, places, degree};
 ghost use Rattle.lookups.specs.Results.{degreeResult};

@@ -4,7 +4,7 @@ ghost use Prim.Native.Nat.{ℕ, _+_, _<_, _≤_};
 ghost use lib.ListN.{length, getD};
 ghost use Rattle.layout.specs.Content.{liveVertices, position};
 ghost use Rattle.layout.specs.Layout.{limit, vertexLimit, vertexCount, hyperedgeCount, read};
-ghost use Rattle.layout.specs.WellFormed.{Formed};
+ghost use Rattle.layout.specs.Inner.{Formed};
 ghost use Rattle.layout.specs.declared.Found.the-variants.{At};
 ghost use Rattle.lookups.specs.Lookups.{connecting};
 ghost use Rattle.lookups.specs.State.{listingMost, listingAhead, nothing, tallying, wordsFor, headFor, start, heading, Beyond, Headed, offset, placing, Filling};

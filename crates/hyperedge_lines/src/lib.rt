@@ -6,7 +6,7 @@ ghost use lib.ListN.{length};
 ghost use Rattle.lists.specs.Lists.{all, tab, pad};
 ghost use Rattle.layout.specs.Content.{isLive};
 ghost use Rattle.layout.specs.Layout.{limit, hyperedgeLimit, recordSize, hyperedgeWords};
-ghost use Rattle.layout.specs.WellFormed.{vertexColumn};
+ghost use Rattle.layout.specs.Inner.{vertexColumn};
 ghost use Rattle.frames.specs.Put.{Put};
 ghost use Rattle.frames.specs.Reading.{nextHyperedgeOf, verticesDue, hyperedgesDue, vertexPlace, countIn, memberIn, hyperedgeFrom, hyperedgeGood};
 ghost use Rattle.reader.specs.Lines.{Valued, Sealed};

@@ -21,7 +21,7 @@ use Rattle.layout.specs.declared.Found.the-variants.{At, Nothing}
 use Rattle.layout.specs.declared.Answer.the-variants.{Done, NoRoom}
 use Rattle.layout.specs.Content.{Hyperedge, Table, liveVertices, position}
 use Rattle.layout.specs.Layout.{limit, vertexLimit, vertexCount, read}
-use Rattle.layout.specs.WellFormed.{Formed}
+use Rattle.layout.specs.Inner.{Formed}
 use Rattle.layout.specs.Answers.{result, listed}
 use Rattle.layout.specs.Steps.{stepsOf, isStep, makesStep}
 use Rattle.layout.proofs.Answers.{listed-over, listed-fits}

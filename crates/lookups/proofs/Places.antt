@@ -15,9 +15,10 @@ use Rattle.lists.proofs.Kept.{filter-length}
 use Rattle.lists.proofs.Tab.{drop-tab, length-tab}
 use Rattle.layout.specs.Steps.{Step, stepsOf}
 use Rattle.layout.specs.Layout.{hyperedgeCount, hyperedgeAt, membersAt, readHyperedges}
-use Rattle.layout.specs.WellFormed.{Formed}
+use Rattle.layout.specs.Inner.{Formed}
 use Rattle.layout.proofs.Read.{members-le}
-use Rattle.lookups.specs.Lookups.{end, stepAt, hasEnd, places, placesIn}
+use Rattle.lookups.specs.Lookups.{end, hasEnd, places, placesIn}
+use Rattle.lookups.specs.State.{stepAt}
 
 -- ---- a loop over i along the steps of ms
 

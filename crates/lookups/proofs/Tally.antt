@@ -17,14 +17,14 @@ use Rattle.layout.specs.declared.Found.{Found}
 use Rattle.layout.specs.declared.Found.the-variants.{At, Nothing}
 use Rattle.layout.specs.Content.{Hyperedge, Table, liveVertices, position}
 use Rattle.layout.specs.Layout.{limit, vertexLimit, vertexCount, hyperedgeCount, hyperedgeAt, membersAt, readHyperedges, read}
-use Rattle.layout.specs.WellFormed.{Formed}
+use Rattle.layout.specs.Inner.{Formed}
 use Rattle.layout.specs.Steps.{isStep}
 use Rattle.layout.proofs.Position.{position-found, position-missing}
 use Rattle.layout.proofs.Read.{live-length, vertex-found}
 use Rattle.lookups.specs.declared.Listing.{Listing}
 use Rattle.lookups.specs.declared.Listing.the-variants.{Connecting}
-use Rattle.lookups.specs.Lookups.{end, stepAt, places, placesIn, block, blockLength, listing, connecting}
-use Rattle.lookups.specs.State.{listingMost, listingAhead, nothing, tallying, Tallied}
+use Rattle.lookups.specs.Lookups.{end, places, placesIn, block, listing, connecting}
+use Rattle.lookups.specs.State.{stepAt, blockLength, listingMost, listingAhead, nothing, tallying, Tallied}
 use Rattle.lookups.proofs.Places.{places-more, places-none, records-more, records-none}
 use Rattle.lookups.proofs.Marking.{step-yes, step-no}
 use Rattle.lookups.proofs.Laid.{block-most}

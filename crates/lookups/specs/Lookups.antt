@@ -1,9 +1,9 @@
 -- What each lookup counts or lists, over a table's content. Assumes nothing.
 use mathlib.Core.Bool.{Bool, true, false, not, cond}
 use mathlib.Core.List.{List, [], _∷_, map}
-use Prim.Native.Nat.{ℕ, _+_}
+use Prim.Native.Nat.{ℕ}
 use lib.Dec.{eqb}
-use lib.ListN.{length, getD, replicate}
+use lib.ListN.{length, replicate}
 use Rattle.lists.specs.Tests.{_and_}
 use Rattle.lists.specs.Lists.{all, any, memb, filter, facing, sumOver, flat, counted}
 use Rattle.layout.specs.Content.{Vertex, Hyperedge, Table, liveVertices, vertexNumber, lists}
@@ -62,10 +62,6 @@ end true s = s .to
 unfoldable pub hasEnd : Bool → ℕ → Step → Bool
 hasEnd arriving v s = eqb (end arriving s) v
 
--- the step at place i of a list
-abbrev pub stepAt : List ℕ → ℕ → Step
-stepAt ms i = record { from = getD ms i 0; to = getD ms (i + 1) 0 }
-
 -- the places of a list at which the step passes the test
 unfoldable pub places : (Step → Bool) → List ℕ → ℕ
 places p ms = length (filter p (stepsOf ms))
@@ -90,10 +86,6 @@ unfoldable pub block : Listing → Hyperedge → List ℕ
 block (Connecting x y) e = replicate (placesIn (isStep x y) e) (e .number)
 block (Weighing w) e = cond (eqb (e .weight) w) (e .number ∷ []) []
 block (Holding v) e = held v (e .members)
-
--- how many words that is
-unfoldable pub blockLength : Listing → Hyperedge → ℕ
-blockLength q e = length (block q e)
 
 -- the listing: what it has of each hyperedge, ascending
 unfoldable pub listing : Listing → Table → List ℕ

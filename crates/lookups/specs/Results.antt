@@ -18,8 +18,11 @@ unfoldable pub relatedResult : Relation → ℕ → List ℕ → Table → Resul
 relatedResult rel v out t = onLiveVertex t v out (listed (related rel v t) out)
 
 -- 10: fewer than two hyperedges to intersect
+abbrev pub isFew : List ℕ → Bool
+isFew xs = ltb (length xs) 2
+
 unfoldable pub onSeveral : List ℕ → List ℕ → Result → Result
-onSeveral xs lent r = cond (ltb (length xs) 2) (result TooFewHyperedges lent) r
+onSeveral xs lent r = cond (isFew xs) (result TooFewHyperedges lent) r
 
 -- get_hyperedges_intersections: 1, 10, 4, 11
 unfoldable pub intersectionsResult : List ℕ → List ℕ → Table → Result

@@ -3,7 +3,8 @@ ghost use mathlib.Core.Path.{_≡_};
 ghost use Prim.Native.Nat.{_+_, _<_};
 ghost use lib.ListN.{length};
 ghost use Rattle.lists.specs.Lists.{memb};
-ghost use Rattle.lookups.specs.Lookups.{end, stepAt};
+ghost use Rattle.lookups.specs.Lookups.{end};
+ghost use Rattle.lookups.specs.State.{stepAt};
 
 // How a hyperedge relates a vertex to another: the other stands right after it, right before it, or with it in the list.
 pub enum Relation {

@@ -13,7 +13,7 @@ use Rattle.lists.specs.Lists.{any, memb, filter}
 use Rattle.lists.proofs.Cases.{on-same, eqb-comm}
 use Rattle.layout.specs.Content.{Table, liveVertices, lists}
 use Rattle.layout.specs.Layout.{vertexLimit, hyperedgeAt, membersAt, read}
-use Rattle.layout.specs.WellFormed.{Formed}
+use Rattle.layout.specs.Inner.{Formed}
 use Rattle.layout.specs.Answers.{Result, listed}
 use Rattle.layout.specs.Steps.{stepsOf}
 use Rattle.layout.proofs.Read.{live-length}

@@ -6,7 +6,7 @@ ghost use lib.ListN.{length};
 ghost use Rattle.lists.specs.Lists.{tab};
 ghost use Rattle.layout.specs.Content.{isLive, vertexOf};
 ghost use Rattle.layout.specs.Layout.{limit, vertexLimit, size, vertexWords};
-ghost use Rattle.layout.specs.WellFormed.{vertexColumn};
+ghost use Rattle.layout.specs.Inner.{vertexColumn};
 ghost use Rattle.frames.specs.Put.{Put};
 ghost use Rattle.frames.specs.Reading.{numberIn, weightIn, memberIn};
 ghost use Rattle.reader.specs.Lines.{Valued, Sealed};

@@ -1,7 +1,7 @@
 // A table read from its text.
 ghost use mathlib.Core.Path.{_≡_};
 ghost use lib.ListN.{length};
-ghost use Rattle.lists.specs.Lists.{blank};
+ghost use Rattle.lists.specs.Inner.{blank};
 ghost use Rattle.layout.specs.Layout.{limit, size};
 ghost use Rattle.layout.specs.Answers.{result};
 ghost use Rattle.frames.specs.Reading.{readResult, verticesDue};

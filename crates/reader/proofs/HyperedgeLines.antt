@@ -14,7 +14,7 @@ use Rattle.lists.proofs.Tab.{tab-ext, tab-suc}
 use Rattle.lists.proofs.Flat.{flat-snoc}
 use Rattle.layout.specs.Content.{isLive, liveVertices}
 use Rattle.layout.specs.Layout.{limit, hyperedgeLimit, recordSize, hyperedgesAt, vertexWord, vertexCount, hyperedgeCount, nextHyperedgeIn, hyperedgeWords}
-use Rattle.layout.specs.WellFormed.{vertexColumn}
+use Rattle.layout.specs.Inner.{vertexColumn}
 use Rattle.frames.specs.Put.{Put}
 use Rattle.frames.specs.Reading.{nextHyperedgeOf, verticesDue, hyperedgesDue, vertexPlace, byteAt, numberIn, countIn, memberIn, hyperedgePlace, hyperedgeFrom, hyperedgeIn, hyperedgeNumberIn, hyperedgeGood, contentOf}
 use Rattle.frames.proofs.Laws.{put-length, put-append, put-as}

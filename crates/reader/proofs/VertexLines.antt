@@ -16,7 +16,7 @@ use Rattle.lists.proofs.Tab.{tab-ext, tab-suc, length-tab, getD-tab, map-tab}
 use Rattle.lists.proofs.Flat.{flat-snoc, flat-at}
 use Rattle.layout.specs.Content.{vertexNumber, liveVertices, vertexOf, noVertex}
 use Rattle.layout.specs.Layout.{limit, size, vertexLimit, vertexSize, verticesAt, vertexWord, nextVertexIn, vertexCount, vertexWords}
-use Rattle.layout.specs.WellFormed.{vertexColumn}
+use Rattle.layout.specs.Inner.{vertexColumn}
 use Rattle.frames.specs.Frames.{vertexLine}
 use Rattle.frames.specs.Put.{Put}
 use Rattle.frames.specs.Reading.{nextVertexOf, verticesDue, vertexPlace, numberIn, weightIn, vertexIn, vertexNumberIn, contentOf, climbsTo, numberGood, standsAt, vertexGood}

@@ -8,7 +8,8 @@ use Rattle.lists.specs.Tests.{_and_, every}
 use Rattle.lists.specs.Lists.{tab, flat}
 use Rattle.layout.specs.Content.{liveVertices, membersLive}
 use Rattle.layout.specs.Layout.{limit, recordSize, hyperedgesAt, hyperedgeWords}
-use Rattle.layout.specs.WellFormed.{vertexColumn, countFits}
+use Rattle.layout.specs.WellFormed.{countFits}
+use Rattle.layout.specs.Inner.{vertexColumn}
 use Rattle.frames.specs.Frames.{hyperedgeLine}
 use Rattle.frames.specs.Put.{Put}
 use Rattle.frames.specs.Reading.{verticesDue, vertexPlace, numberIn, countIn, hyperedgePlace, hyperedgeFrom, hyperedgeIn, hyperedgeGood, contentOf, standsAt}

@@ -6,11 +6,12 @@ use mathlib.Core.List.{List, [], _∷_, _++_}
 use lib.Dec.{eqb}
 use lib.ListN.{length, getD}
 use Rattle.lists.specs.Tests.{every}
-use Rattle.lists.specs.Lists.{tab, flat, blank, pad, Ascending}
+use Rattle.lists.specs.Lists.{tab, flat, pad, Ascending}
+use Rattle.lists.specs.Inner.{blank}
 use Rattle.layout.specs.declared.Answer.{Answer}
 use Rattle.layout.specs.declared.Answer.the-variants.{Done, BadText}
 use Rattle.layout.specs.Layout.{limit, size, vertexLimit, hyperedgeLimit, vertexSize, recordSize, verticesAt, vertexWord, nextVertexIn, nextHyperedgeIn, vertexCount, hyperedgeCount, vertexWords, words}
-use Rattle.layout.specs.WellFormed.{vertexColumn}
+use Rattle.layout.specs.Inner.{vertexColumn}
 use Rattle.frames.specs.Put.{Put}
 use Rattle.frames.specs.Reading.{nextVertexOf, nextHyperedgeOf, verticesDue, hyperedgesDue, vertexPlace, vertexIn, contentOf, headGood, vertexGood, accepted, faultyLine}
 

@@ -1,4 +1,4 @@
--- Cases beside the paper's sheets. Assumes nothing.
+-- Cases beside the rules' sheets. Assumes nothing.
 use mathlib.Core.Bool.{true, false}
 use mathlib.Core.List.{List, [], _∷_}
 use Prim.Native.Nat.{ℕ}
@@ -82,10 +82,11 @@ out-of-0 = record { table = K; query = degreeResult false 0; answer = answers 3 
 abbrev pub into-1 : Case
 into-1 = record { table = K; query = degreeResult true 1; answer = answers 3 }
 
--- a second vertex that is not live gives an empty answer
+-- each of the three lists has the step once
 abbrev pub connecting-K : Case
 connecting-K = record { table = K; query = connectingResult 0 1 (lent 3); answer = gives (0 ∷ 1 ∷ 2 ∷ []) }
 
+-- a second vertex that is not live gives an empty answer
 abbrev pub connecting-none : Case
 connecting-none = record { table = G; query = connectingResult 0 9 (lent 0); answer = gives [] }
 

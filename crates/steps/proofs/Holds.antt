@@ -13,7 +13,7 @@ use Rattle.lists.specs.Tests.{_and_, bit}
 use Rattle.lists.proofs.Cases.{on, on-same, or-right, or-false, and-both, and-false-left, and-false-right}
 use Rattle.layout.specs.Layout.{vertexLimit}
 use Rattle.graph.specs.Reach.{matrix}
-use Rattle.steps.specs.Matrices.{cell, Holds}
+use Rattle.steps.specs.Inner.{cell, Holds}
 use Rattle.steps.specs.Drawn.{putting}
 
 -- two places of the matrix that differ are of two pairs

@@ -7,7 +7,8 @@ use native.Mathlib.Omega.{arith}
 use lib.Dec.{eqb}
 use lib.ListN.{length, getD, take, replicate, length-reverse}
 use lib.Seq.{take-suc, getD-take, length-take-le}
-use Rattle.lists.specs.Lists.{memb, Below, turned}
+use Rattle.lists.specs.Lists.{memb, turned}
+use Rattle.lists.specs.Inner.{Below}
 use Rattle.lists.proofs.Count.{pigeon}
 use Rattle.lists.proofs.Memb.{memb-getD, below-memb}
 use Rattle.lists.proofs.Cases.{on-same, clash}

@@ -6,14 +6,15 @@ use Prim.Native.Nat.{ℕ, _<_}
 use native.Mathlib.Omega.{arith}
 use lib.ListN.{length, getD}
 use Rattle.lists.specs.Tests.{every}
-use Rattle.lists.specs.Lists.{memb, Below, Ascending, upTo}
+use Rattle.lists.specs.Lists.{memb, Ascending, upTo}
+use Rattle.lists.specs.Inner.{Below}
 use Rattle.lists.proofs.Every.{every-at, every-of}
 use Rattle.lists.proofs.Maps.{map-length}
 use Rattle.walks.specs.Walks.{Reach}
 use Rattle.walks.proofs.Walks.{reach-trans}
 use Rattle.layout.specs.Content.{liveVertices, isLive}
 use Rattle.layout.specs.Layout.{limit, vertexCount, read}
-use Rattle.layout.specs.WellFormed.{Formed}
+use Rattle.layout.specs.Inner.{Formed}
 use Rattle.layout.specs.Steps.{hasStep}
 use Rattle.layout.proofs.Read.{live-length}
 use Rattle.graph.proofs.Bfs.{bfs-sound, bfs-complete}

@@ -9,7 +9,7 @@ use Rattle.layout.specs.Content.{liveVertices}
 use Rattle.layout.specs.Layout.{limit, read}
 use Rattle.layout.specs.Steps.{stepsOf, isStep}
 use Rattle.lists.specs.Lists.{facing}
-use Rattle.lookups.specs.Lookups.{stepAt}
+use Rattle.lookups.specs.State.{stepAt}
 use Rattle.lookups.proofs.Places.{steps-more, steps-end}
 use Rattle.lookups.proofs.Marking.{mark-one, Marking, marking-none, marking-more, marking-skip, marking-end, marked-as, step-yes, step-no}
 use borrow.Author.Needs.{needs}
