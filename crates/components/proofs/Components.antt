@@ -19,7 +19,7 @@ use Rattle.components.proofs.Members.{chosen-passes, chosen-has, chosen
 module _ {P : ℕ → ℕ → Bool} {n : ℕ} (q : Equivalence P n) (order : List ℕ) (b : Below n order) (all : (v : ℕ) → v < n → memb v order ≡ true)
     (R : ℕ → ℕ → Type 0) (there : (i j : ℕ) → i < n → j < n → P i j ≡ true → R i j) (back : (i j : ℕ) → i < n → j < n → R i j → P i j ≡ true)
     (Before : ℕ → ℕ → Type 0) (ranked : Ranked Before order) where
-  root : ℕ → ℕ
+  abbrev root : ℕ → ℕ
   root k = getD (rootsOf P order) k 0
 
   long : length (classes P n order) ≡ length (rootsOf P order)
@@ -31,11 +31,10 @@ module _ {P : ℕ → ℕ → Bool} {n : ℕ} (q : Equivalence P n) (order : Lis
     rooted-at = rw long at l
 
     at : getD (classes P n order) k [] ≡ class P n (root k)
-    unfolding classes root
+    unfolding classes
     at = getD-map (class P n) (rootsOf P order) k 0 [] rooted-at
 
     below : root k < n
-    unfolding root
     below = root-in q order b k rooted-at
 
     -- a member is joined with the root
@@ -49,7 +48,6 @@ module _ {P : ℕ → ℕ → Bool} {n : ℕ} (q : Equivalence P n) (order : Lis
     root-member = member (root k) below (q .alike (root k) below)
 
     root-first : First Before (getD (classes P n order) k []) (root k)
-    unfolding root
     root-first = record {
       member = root-member;
       before = λ y e ne.
@@ -58,7 +56,6 @@ module _ {P : ℕ → ℕ → Bool} {n : ℕ} (q : Equivalence P n) (order : Lis
     }
 
   pub classes-components : Components (isBelow n) R Before (classes P n order)
-  unfolding root
   classes-components = record {
     some = λ x e.
         let l : x < n = ltb-true x n e in

@@ -30,7 +30,7 @@ pub record Mutual (t : Table) (x y : ℕ) : Type 0 where
 abbrev pub liveCount : Table → ℕ
 liveCount t = length (liveVertices t)
 
--- the live vertices as they are finished: depth first from ascending starts, largest neighbour first
+-- the live vertices as they are finished: depth first from ascending starts, largest neighbour first, by record; records ascend by number
 abbrev pub finishOrder : Table → List ℕ
 finishOrder t = map (numberOf t) (finished (stepsBetween t) (liveCount t))
 
