@@ -32,7 +32,7 @@ pub record Levels (E : ℕ → ℕ → Bool) (s k : ℕ) (q : List ℕ) : Type 0
   pub earlier : (i j a : ℕ) → 0 < i → i ≤ j → j < length q → a < k → E (getD q a 0) (getD q j 0) ≡ true → (p : ℕ) × (p ≤ a) × (E (getD q p 0) (getD q i 0) ≡ true)
 
 -- no number stands at two places
-distinct-apart : (l : List ℕ) → Distinct l → (i j : ℕ) → i < j → j < length l → getD l i 0 ≡ getD l j 0 → ⊥
+pub distinct-apart : (l : List ℕ) → Distinct l → (i j : ℕ) → i < j → j < length l → getD l i 0 ≡ getD l j 0 → ⊥
 distinct-apart l d i j h b e =
     clash (ap (λ (z : ℕ). memb z (take j l)) (sym (getD-take j l i 0 h ∙ e)) ∙ memb-getD (take j l) i (omega (arith, length-take-le j l (omega arith)))) (distinct-before l j d b)
 
