@@ -1,0 +1,4 @@
+pub mod Sort
+pub mod Texts
+pub mod Removals
+pub mod Refusals
