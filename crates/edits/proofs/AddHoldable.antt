@@ -37,7 +37,7 @@ ascending-more [] n a b = and-both true true refl refl
 ascending-more (x ∷ xs) n a b =
     and-both _ _ (all-more (ltb x) xs n (and-left _ _ a) (and-left _ _ b)) (ascending-more xs n (and-right _ _ a) (and-right _ _ b))
 
-numbered-more : (xs : List ℕ) (n : ℕ) → numbered xs n ≡ true → numbered (xs ++ (n ∷ [])) (n + 1) ≡ true
+pub numbered-more : (xs : List ℕ) (n : ℕ) → numbered xs n ≡ true → numbered (xs ++ (n ∷ [])) (n + 1) ≡ true
 unfolding numbered
 numbered-more xs n e =
     and-both _ _ (ascending-more xs n (and-left _ _ e) (and-right _ _ e))
@@ -134,7 +134,7 @@ module _ (L : ℕ) (ms : List ℕ) (t : Table) (h : holdable L t ≡ true) (pos 
 
 -- ---- a number is not given twice: those given are below the next number, a new one is the next number, and the next number never falls
 
-below-next : (numbers : List ℕ) (next : ℕ) → numbered numbers next ≡ true → (x : ℕ) → memb x numbers ≡ true → x < next
+pub below-next : (numbers : List ℕ) (next : ℕ) → numbered numbers next ≡ true → (x : ℕ) → memb x numbers ≡ true → x < next
 unfolding numbered
 below-next numbers next e x m =
     let a = memb-at x numbers m in

@@ -1,0 +1,2 @@
+pub mod NumbersSteps
+pub mod Numbers

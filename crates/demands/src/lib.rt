@@ -1,0 +1,1 @@
+// What the demands ask of the calls. It has no code of its own.
