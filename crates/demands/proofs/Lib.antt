@@ -1,2 +1,3 @@
 pub mod NumbersSteps
 pub mod Numbers
+pub mod Paths
