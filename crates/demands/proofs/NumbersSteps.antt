@@ -11,30 +11,29 @@ use Rattle.lists.proofs.Memb.{memb-self}
 use Rattle.layout.specs.Content.{Hyperedge, Table, hyperedgeNumber, liveVertices, liveHyperedges}
 use Rattle.layout.specs.Layout.{limit, read, words}
 use Rattle.layout.specs.WellFormed.{wellFormed, holdable}
-use Rattle.layout.specs.Answers.{Result}
 use Rattle.layout.proofs.Back.{read-words, words-formed}
 use Rattle.edits.specs.Edits
 use Rattle.edits.specs.Results.{identical, membersOf}
 use Rattle.edits.proofs.AddHoldable.{add-vertex-live, add-hyperedge-live, update-live}
 use Rattle.edits.proofs.Outcomes.{add-vertex-goes, add-hyperedge-goes, update-goes}
-use Rattle.removals.specs.Removals.{Removal, removal, removeAll, staysVertex, staysHyperedge, withdrawn}
 use Rattle.removals.specs.Removals
+use Rattle.removals.specs.Removals.{Removal, removeAll, withdrawn}
 use Rattle.removals.proofs.Theorems.{removals-formed, removals-content, removals-vertex, removals-hyperedge}
 use Rattle.demands.specs.Numbers.{Kind, vertices, hyperedges, ofKind, live, next, Edit, addVertex, addHyperedge, update, remove, edit, answered, gives}
 
--- from the words ws to the words s, with the numbers given between them: none, and nothing is live that was not; or the next one
+-- from the words ws to the words s, with the numbers given between them: none, and nothing is live that was not; or the next one, and it is live
 pub data Moved (k : Kind) (ws s : List ℕ) : List ℕ → Type 0 where
   kept : wellFormed limit s ≡ true → next k s ≡ next k ws → ((x : ℕ) → memb x (live k s) ≡ true → memb x (live k ws) ≡ true) → Moved k ws s []
   grown : wellFormed limit s ≡ true → next k s ≡ next k ws + 1 → live k s ≡ live k ws ++ (next k ws ∷ []) → Moved k ws s (next k ws ∷ [])
 
--- the same of a content
+-- the live numbers and the next number of a content
 abbrev liveOf : Kind → Table → List ℕ
 liveOf k t = ofKind k (liveVertices t) (liveHyperedges t)
 
 abbrev nextOf : Kind → Table → ℕ
 nextOf k t = ofKind k (t .nextVertex) (t .nextHyperedge)
 
--- an edit that leaves the words of a content
+-- a call that leaves the words of the content t
 module _ (k : Kind) (ws : List ℕ) (t : Table) (h : holdable limit t ≡ true) where
   left-next : next k (words limit t) ≡ nextOf k t
   unfolding next
@@ -44,8 +43,8 @@ module _ (k : Kind) (ws : List ℕ) (t : Table) (h : holdable limit t ≡ true) 
   unfolding live
   left-live = ap (liveOf k) (read-words limit t h)
 
-  to-kept : nextOf k t ≡ next k ws → liveOf k t ≡ live k ws → Moved k ws (words limit t) []
-  to-kept n l = kept (words-formed limit t h) (left-next ∙ n) (λ x m. rw (left-live, l) at m)
+  to-kept : nextOf k t ≡ next k ws → ((x : ℕ) → memb x (liveOf k t) ≡ true → memb x (live k ws) ≡ true) → Moved k ws (words limit t) []
+  to-kept n l = kept (words-formed limit t h) (left-next ∙ n) (λ x m. l x (rw left-live at m))
 
   to-grown : nextOf k t ≡ next k ws + 1 → liveOf k t ≡ live k ws ++ (next k ws ∷ []) → Moved k ws (words limit t) (next k ws ∷ [])
   to-grown n l = grown (words-formed limit t h) (left-next ∙ n) (left-live ∙ l)
@@ -59,12 +58,43 @@ members-live p x (f ∷ es) e =
     (λ q. rw q (memb-self x (map hyperedgeNumber es)))
     (λ ne. or-right (eqb x (f .number)) (memb x (map hyperedgeNumber es)) (members-live p x es (rw (ne-eqb (f .number) x ne) at e)))
 
+-- ---- each edit
+
 module _ (ws : List ℕ) (formed : wellFormed limit ws ≡ true) where
   unchanged : (k : Kind) → Moved k ws ws []
   unchanged k = kept formed refl (λ x m. m)
 
-  -- ---- any list of removals
+  vertex-added : (k : Kind) (w : ℕ) → Moved k ws (edit (addVertex w) ws .lent) (gives k (addVertex w) ws)
+  unfolding edit gives answered live next Edits.addVertex
+  vertex-added vertices w =
+      add-vertex-goes (λ r. Moved vertices ws (r .lent) (answered r)) ws formed (λ a n. rw n (unchanged vertices)) w
+      (λ h. to-grown vertices ws _ h refl (add-vertex-live w (read limit ws)))
+  vertex-added hyperedges w =
+      add-vertex-goes (λ r. Moved hyperedges ws (r .lent) []) ws formed (λ a n. unchanged hyperedges) w
+      (λ h. to-kept hyperedges ws _ h refl (λ x m. m))
 
+  hyperedge-added : (k : Kind) (ms : List ℕ) (w : ℕ) → Moved k ws (edit (addHyperedge ms w) ws .lent) (gives k (addHyperedge ms w) ws)
+  unfolding edit gives answered live next Edits.addHyperedge
+  hyperedge-added vertices ms w =
+      add-hyperedge-goes (λ r. Moved vertices ws (r .lent) []) ws formed (λ a n. unchanged vertices) ms w (λ q x. unchanged vertices)
+      (λ q h. to-kept vertices ws _ h refl (λ x m. m))
+  hyperedge-added hyperedges ms w =
+      let found : Bool = any (identical ms w) (read limit ws .hyperedges) in
+      add-hyperedge-goes (λ r. Moved hyperedges ws (r .lent) (cond found [] (answered r))) ws formed
+      (λ a n. rw n (on found (λ q. rw q (unchanged hyperedges)) (λ q. rw q (unchanged hyperedges)))) ms w
+      (λ q x. rw q (unchanged hyperedges))
+      (λ q h. rw q (to-grown hyperedges ws _ h refl (add-hyperedge-live ms w (read limit ws))))
+
+  updated : (k : Kind) (x : ℕ) (ms : List ℕ) → Moved k ws (edit (update x ms) ws .lent) []
+  unfolding edit live next Edits.updateHyperedge
+  updated vertices x ms =
+      update-goes (λ r. Moved vertices ws (r .lent) []) ws formed (λ a n. unchanged vertices) x ms
+      (λ h. to-kept vertices ws _ h refl (λ v m. m))
+  updated hyperedges x ms =
+      update-goes (λ r. Moved hyperedges ws (r .lent) []) ws formed (λ a n. unchanged hyperedges) x ms
+      (λ h. to-kept hyperedges ws _ h refl (λ e m. rw (update-live x ms (read limit ws)) at m))
+
+  -- any list of removals
   removed-next : (k : Kind) (rs : List Removal) → next k (removeAll rs ws) ≡ next k ws
   unfolding next withdrawn
   removed-next vertices rs = ap (nextOf vertices) (removals-content ws formed rs)
@@ -78,29 +108,10 @@ module _ (ws : List ℕ) (formed : wellFormed limit ws ≡ true) where
   removed : (k : Kind) (rs : List Removal) → Moved k ws (removeAll rs ws) []
   removed k rs = kept (removals-formed ws formed rs) (removed-next k rs) (removed-live k rs)
 
-  -- ---- every edit
-
+  -- every edit
   pub edit-moved : (k : Kind) (e : Edit) → Moved k ws (edit e ws .lent) (gives k e ws)
-  unfolding edit gives answered live next removeAll Removals.remove Edits.addVertex Edits.addHyperedge Edits.updateHyperedge
-  edit-moved vertices (addVertex w) =
-      add-vertex-goes (λ r. Moved vertices ws (r .lent) (answered r)) ws formed (λ a n. rw n (unchanged vertices)) w
-      (λ h. to-grown vertices ws _ h refl (add-vertex-live w (read limit ws)))
-  edit-moved hyperedges (addVertex w) =
-      add-vertex-goes (λ r. Moved hyperedges ws (r .lent) []) ws formed (λ a n. unchanged hyperedges) w
-      (λ h. to-kept hyperedges ws _ h refl refl)
-  edit-moved vertices (addHyperedge ms w) =
-      add-hyperedge-goes (λ r. Moved vertices ws (r .lent) []) ws formed (λ a n. unchanged vertices) ms w (λ found x. unchanged vertices)
-      (λ new h. to-kept vertices ws _ h refl refl)
-  edit-moved hyperedges (addHyperedge ms w) =
-      let found : Bool = any (identical ms w) (read limit ws .hyperedges) in
-      add-hyperedge-goes (λ r. Moved hyperedges ws (r .lent) (cond found [] (answered r))) ws formed
-      (λ a n. rw n (on found (λ q. rw q (unchanged hyperedges)) (λ q. rw q (unchanged hyperedges)))) ms w
-      (λ q x. rw q (unchanged hyperedges))
-      (λ q h. rw q (to-grown hyperedges ws _ h refl (add-hyperedge-live ms w (read limit ws))))
-  edit-moved vertices (update x ms) =
-      update-goes (λ r. Moved vertices ws (r .lent) []) ws formed (λ a n. unchanged vertices) x ms
-      (λ h. to-kept vertices ws _ h refl refl)
-  edit-moved hyperedges (update x ms) =
-      update-goes (λ r. Moved hyperedges ws (r .lent) []) ws formed (λ a n. unchanged hyperedges) x ms
-      (λ h. to-kept hyperedges ws _ h refl (update-live x ms (read limit ws)))
+  unfolding edit gives removeAll Removals.remove
+  edit-moved k (addVertex w) = vertex-added k w
+  edit-moved k (addHyperedge ms w) = hyperedge-added k ms w
+  edit-moved k (update x ms) = updated k x ms
   edit-moved k (remove r) = removed k (r ∷ [])

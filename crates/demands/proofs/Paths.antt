@@ -1,10 +1,10 @@
 -- The answer for a pair held against `is_reachable`, and the answer for a vertex and itself. Assumes nothing.
-use mathlib.Core.Path.{_≡_, refl, sym, ap, _∙_}
+use mathlib.Core.Path.{_≡_, refl, sym, _∙_}
 use mathlib.Core.Bool.{Bool, true, false}
 use mathlib.Core.Logic.{inl, inr}
 use mathlib.Core.List.{List, [], _∷_}
 use mathlib.Core.Option.{Option, none, some}
-use Prim.Native.Nat.{ℕ, zero, suc, _≤_}
+use Prim.Native.Nat.{ℕ, suc, _≤_}
 use native.Mathlib.Nat.{zero-lt-suc}
 use native.Mathlib.Omega.{arith}
 use lib.Dec.{eqb, leb}
@@ -12,16 +12,15 @@ use lib.ListN.{length}
 use borrow.Author.Tests.{lt-ltb, le-leb}
 use Rattle.lists.specs.Tests.{_and_, bit}
 use Rattle.lists.specs.Lists.{over}
-use Rattle.lists.proofs.Cases.{on, on-below, clash}
-use Rattle.walks.specs.Walks.{Reach}
+use Rattle.lists.proofs.Cases.{on, on-below}
 use Rattle.layout.specs.declared.Answer.the-variants.{Done}
-use Rattle.layout.specs.Content.{Table, liveVertices, isLive}
+use Rattle.layout.specs.Content.{liveVertices, isLive}
 use Rattle.layout.specs.Layout.{limit, read}
 use Rattle.layout.specs.WellFormed.{wellFormed, Formed}
-use Rattle.layout.specs.Answers.{Result, result, onFormed, onLive, listed}
+use Rattle.layout.specs.Answers.{result, onFormed, onLive, listed}
 use Rattle.layout.specs.Steps.{StepIn}
 use Rattle.layout.proofs.Read.{formed-of}
-use Rattle.distance.specs.Best.{Walk, total, Ahead}
+use Rattle.distance.specs.Best.{total, Ahead}
 use Rattle.distance.proofs.Reached.{reached-by}
 use Rattle.traversal.specs.Traversal.{reachable, reachableResult}
 use Rattle.traversal.proofs.Walks.{reachable-walk, walk-reachable}

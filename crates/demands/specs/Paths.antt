@@ -1,6 +1,5 @@
 -- What is asked of the answer for a pair and of a yes or no. Assumes nothing.
 use mathlib.Core.Bool.{Bool}
-use Prim.Native.Nat.{ℕ}
 use lib.Dec.{eqb, ltb}
 use Rattle.lists.specs.Tests.{_and_}
 use Rattle.lists.specs.Lists.{wordAt}
