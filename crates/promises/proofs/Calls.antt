@@ -29,7 +29,8 @@ use Rattle.paths.specs.Paths.{pathWords, bestPath, costsFrom, pairResult, fromR
 use Rattle.walk.specs.Walk.{walk, walkResult}
 use Rattle.frames.specs.Frames.{frameText, writeResult}
 use Rattle.frames.specs.Reading.{contentOf, accepted, faultyLine, readResult}
-use Rattle.promises.specs.Refusals.{Judged, content, unformed, unsized, deadVertices, closedWalk, noRoom, addVertexGrounds, addHyperedgeGrounds, updateGrounds, vertexGrounds, hyperedgeGrounds, listingGrounds, intersectionsGrounds, sortGrounds, badText, readGrounds}
+use Rattle.sort_sheet.specs.Sheet.{sheetResult}
+use Rattle.promises.specs.Refusals.{Judged, content, unformed, unsized, deadVertices, closedWalk, noRoom, addVertexGrounds, addHyperedgeGrounds, updateGrounds, vertexGrounds, hyperedgeGrounds, listingGrounds, intersectionsGrounds, sortGrounds, badText, readGrounds, sheetGrounds}
 use Rattle.promises.proofs.Refusals.{none-refused, off-ground, live-judged, some-judged, short-judged, room-judged, number-judged, new-judged, changed-judged, several-judged, formed-judged, listed-judged}
 
 -- ---- edits
@@ -78,6 +79,16 @@ read-judged text ws =
     let done = result (Done 0) (words limit (contentOf text)) in
     let twelve = off-ground [] ws done (none-refused refl) (badText text) (accepted text) refl in
     off-ground (badText text ∷ []) ws (cond (accepted text) done (result (BadText (faultyLine text)) ws)) twelve (unsized ws) (eqb (length ws) (size limit)) refl
+
+-- ---- the sort of a frame text
+
+pub sort-text-judged : (text lent : List ℕ) → Judged (sheetGrounds text lent) lent (sheetResult text lent)
+unfolding sheetResult sortResult
+sort-text-judged text lent =
+    let t = contentOf text in
+    let eleven = listed-judged (sortOf t) lent in
+    let nine = off-ground (noRoom (sortOf t) lent ∷ []) lent (listed (sortOf t) lent) eleven (closedWalk t) (acyclic t) refl in
+    off-ground (closedWalk t ∷ noRoom (sortOf t) lent ∷ []) lent (sortResult lent t) nine (badText text) (accepted text) refl
 
 -- ---- queries: what is answered after 1 is a number, or a listing, where the vertices asked are live
 

@@ -16,8 +16,8 @@ use Rattle.layout.specs.WellFormed.{wellFormed}
 use Rattle.layout.specs.Answers.{Result, result, vertexMissing, hyperedgeMissing, fits}
 use Rattle.edits.specs.Results.{hasSome, isShort, hasRoom, isSpent, equalsOld, identical}
 use Rattle.lookups.specs.Results.{isFew}
-use Rattle.structural.specs.Sort.{acyclic}
-use Rattle.frames.specs.Reading.{accepted, faultyLine}
+use Rattle.structural.specs.Sort.{sortOf, acyclic}
+use Rattle.frames.specs.Reading.{contentOf, accepted, faultyLine}
 
 -- a ground of refusal: the answer that it gives, and whether it applies
 pub record Ground : Type 0 where
@@ -145,3 +145,7 @@ sortGrounds xs lent ws = unformed ws ∷ closedWalk (content ws) ∷ noRoom xs l
 -- reading frames 1, 12
 abbrev pub readGrounds : List ℕ → List ℕ → List Ground
 readGrounds text ws = unsized ws ∷ badText text ∷ []
+
+-- the sort of a frame text 12, 9, 11
+abbrev pub sheetGrounds : List ℕ → List ℕ → List Ground
+sheetGrounds text lent = badText text ∷ closedWalk (contentOf text) ∷ noRoom (sortOf (contentOf text)) lent ∷ []
