@@ -11,7 +11,7 @@ use Rattle.lists.specs.Lists.{memb}
 use Rattle.lists.proofs.Cases.{on-same, on-below}
 use Rattle.lists.proofs.Memb.{memb-getD}
 use Rattle.lists.proofs.Ascend.{ascending-same}
-use Rattle.components.specs.Components.{First, Ahead, Components}
+use Rattle.components.specs.Components.{First, Precedes, Components}
 
 -- places that rise are no lower than their own
 rising : (m : ℕ) (at : (k : ℕ) → k < m → ℕ) → ((j k : ℕ) (lj : j < m) (lk : k < m) → j < k → at j lj < at k lk) → (k : ℕ) (l : k < m) → k ≤ at k l
@@ -23,8 +23,8 @@ module _ {Before : ℕ → ℕ → Type 0} (one-way : (x y : ℕ) → Before x y
   first-once {c} {x} {y} a b =
       on-same x y (λ e. e) (λ ne. absurd (one-way x y (a .before y (b .member) ne) (b .before x (a .member) (λ e. ne (sym e)))))
 
-  ahead-one-way : {c d : List ℕ} → Ahead Before c d → Ahead Before d c → ⊥
-  ahead-one-way a b =
+  precedes-one-way : {c d : List ℕ} → Precedes Before c d → Precedes Before d c → ⊥
+  precedes-one-way a b =
       one-way (a .one) (a .other) (a .before)
       (subst (λ (z : ℕ). Before (a .other) z) (first-once (b .other-first) (a .one-first))
       (subst (λ (z : ℕ). Before z (b .other)) (first-once (b .one-first) (a .other-first)) (b .before)))
@@ -59,11 +59,11 @@ module _ {Before : ℕ → ℕ → Type 0} (one-way : (x y : ℕ) → Before x y
         (λ h. absurd (on-same (p .0) (q .0)
         (λ s.
         let e : getD cs j [] ≡ getD cs k [] = p .2 ∙ ap (λ (i : ℕ). getD ds i []) s ∙ sym (q .2) in
-        let u : Ahead Before (getD cs k []) (getD cs k []) = rw e at (a .ordered j k l lk) in
-        ahead-one-way u u)
+        let u : Precedes Before (getD cs k []) (getD cs k []) = rw e at (a .ordered j k l lk) in
+        precedes-one-way u u)
         (λ ne.
-        let u : Ahead Before (getD ds (q .0) []) (getD ds (p .0) []) = b .ordered (q .0) (p .0) (omega arith) (p .1) in
-        ahead-one-way (a .ordered j k l lk) (rw (← p .2, ← q .2) at u))))
+        let u : Precedes Before (getD ds (q .0) []) (getD ds (p .0) []) = b .ordered (q .0) (p .0) (omega arith) (p .1) in
+        precedes-one-way (a .ordered j k l lk) (rw (← p .2, ← q .2) at u))))
 
   module _ {live : ℕ → Bool} {R : ℕ → ℕ → Type 0} {cs ds : List (List ℕ)} (a : Components live R Before cs) (b : Components live R Before ds) where
     -- the two have the same component at each place

@@ -12,7 +12,7 @@ pub record First (Before : ℕ → ℕ → Type 0) (c : List ℕ) (x : ℕ) : Ty
   pub before : (y : ℕ) → memb y c ≡ true → (x ≡ y → ⊥) → Before x y
 
 -- c comes before d: the first member of c before the first member of d
-pub record Ahead (Before : ℕ → ℕ → Type 0) (c d : List ℕ) : Type 0 where
+pub record Precedes (Before : ℕ → ℕ → Type 0) (c d : List ℕ) : Type 0 where
   pub one : ℕ
   pub other : ℕ
   pub one-first : First Before c one
@@ -29,4 +29,4 @@ pub record Components (live : ℕ → Bool) (R Before : ℕ → ℕ → Type 0) 
   pub whole : (k x y : ℕ) → k < length cs → memb x (getD cs k []) ≡ true → live y ≡ true → R x y → memb y (getD cs k []) ≡ true
   pub inhabited : (k : ℕ) → k < length cs → 0 < length (getD cs k [])
   pub sorted : (k : ℕ) → k < length cs → Ascending (getD cs k [])
-  pub ordered : (j k : ℕ) → j < k → k < length cs → Ahead Before (getD cs j []) (getD cs k [])
+  pub ordered : (j k : ℕ) → j < k → k < length cs → Precedes Before (getD cs j []) (getD cs k [])

@@ -19,12 +19,12 @@ use Rattle.edits.proofs.Outcomes.{add-vertex-goes, add-hyperedge-goes, update-g
 use Rattle.removals.specs.Removals
 use Rattle.removals.specs.Removals.{Removal, removeAll, withdrawn}
 use Rattle.removals.proofs.Theorems.{removals-formed, removals-content, removals-vertex, removals-hyperedge}
-use Rattle.demands.specs.Numbers.{Kind, vertices, hyperedges, ofKind, live, next, Edit, addVertex, addHyperedge, update, remove, edit, answered, gives}
+use Rattle.demands.specs.Numbers.{Kind, vertices, hyperedges, ofKind, live, nextNumber, Edit, addVertex, addHyperedge, update, remove, edit, answered, givenBy}
 
 -- from the words ws to the words s, with the numbers given between them: none, and nothing is live that was not; or the next one, and it is live
 pub data Moved (k : Kind) (ws s : List ℕ) : List ℕ → Type 0 where
-  kept : wellFormed limit s ≡ true → next k s ≡ next k ws → ((x : ℕ) → memb x (live k s) ≡ true → memb x (live k ws) ≡ true) → Moved k ws s []
-  grown : wellFormed limit s ≡ true → next k s ≡ next k ws + 1 → live k s ≡ live k ws ++ (next k ws ∷ []) → Moved k ws s (next k ws ∷ [])
+  kept : wellFormed limit s ≡ true → nextNumber k s ≡ nextNumber k ws → ((x : ℕ) → memb x (live k s) ≡ true → memb x (live k ws) ≡ true) → Moved k ws s []
+  grown : wellFormed limit s ≡ true → nextNumber k s ≡ nextNumber k ws + 1 → live k s ≡ live k ws ++ (nextNumber k ws ∷ []) → Moved k ws s (nextNumber k ws ∷ [])
 
 -- the live numbers and the next number of a content
 abbrev liveOf : Kind → Table → List ℕ
@@ -35,18 +35,18 @@ nextOf k t = ofKind k (t .nextVertex) (t .nextHyperedge)
 
 -- a call that leaves the words of the content t
 module _ (k : Kind) (ws : List ℕ) (t : Table) (h : holdable limit t ≡ true) where
-  left-next : next k (words limit t) ≡ nextOf k t
-  unfolding next
+  left-next : nextNumber k (words limit t) ≡ nextOf k t
+  unfolding nextNumber
   left-next = ap (nextOf k) (read-words limit t h)
 
   left-live : live k (words limit t) ≡ liveOf k t
   unfolding live
   left-live = ap (liveOf k) (read-words limit t h)
 
-  to-kept : nextOf k t ≡ next k ws → ((x : ℕ) → memb x (liveOf k t) ≡ true → memb x (live k ws) ≡ true) → Moved k ws (words limit t) []
+  to-kept : nextOf k t ≡ nextNumber k ws → ((x : ℕ) → memb x (liveOf k t) ≡ true → memb x (live k ws) ≡ true) → Moved k ws (words limit t) []
   to-kept n l = kept (words-formed limit t h) (left-next ∙ n) (λ x m. l x (rw left-live at m))
 
-  to-grown : nextOf k t ≡ next k ws + 1 → liveOf k t ≡ live k ws ++ (next k ws ∷ []) → Moved k ws (words limit t) (next k ws ∷ [])
+  to-grown : nextOf k t ≡ nextNumber k ws + 1 → liveOf k t ≡ live k ws ++ (nextNumber k ws ∷ []) → Moved k ws (words limit t) (nextNumber k ws ∷ [])
   to-grown n l = grown (words-formed limit t h) (left-next ∙ n) (left-live ∙ l)
 
 -- a hyperedge that has members is live
@@ -64,8 +64,8 @@ module _ (ws : List ℕ) (formed : wellFormed limit ws ≡ true) where
   unchanged : (k : Kind) → Moved k ws ws []
   unchanged k = kept formed refl (λ x m. m)
 
-  vertex-added : (k : Kind) (w : ℕ) → Moved k ws (edit (addVertex w) ws .lent) (gives k (addVertex w) ws)
-  unfolding edit gives answered live next Edits.addVertex
+  vertex-added : (k : Kind) (w : ℕ) → Moved k ws (edit (addVertex w) ws .lent) (givenBy k (addVertex w) ws)
+  unfolding edit givenBy answered live nextNumber Edits.addVertex
   vertex-added vertices w =
       add-vertex-goes (λ r. Moved vertices ws (r .lent) (answered r)) ws formed (λ a n. rw n (unchanged vertices)) w
       (λ h. to-grown vertices ws _ h refl (add-vertex-live w (read limit ws)))
@@ -73,8 +73,8 @@ module _ (ws : List ℕ) (formed : wellFormed limit ws ≡ true) where
       add-vertex-goes (λ r. Moved hyperedges ws (r .lent) []) ws formed (λ a n. unchanged hyperedges) w
       (λ h. to-kept hyperedges ws _ h refl (λ x m. m))
 
-  hyperedge-added : (k : Kind) (ms : List ℕ) (w : ℕ) → Moved k ws (edit (addHyperedge ms w) ws .lent) (gives k (addHyperedge ms w) ws)
-  unfolding edit gives answered live next Edits.addHyperedge
+  hyperedge-added : (k : Kind) (ms : List ℕ) (w : ℕ) → Moved k ws (edit (addHyperedge ms w) ws .lent) (givenBy k (addHyperedge ms w) ws)
+  unfolding edit givenBy answered live nextNumber Edits.addHyperedge
   hyperedge-added vertices ms w =
       add-hyperedge-goes (λ r. Moved vertices ws (r .lent) []) ws formed (λ a n. unchanged vertices) ms w (λ q x. unchanged vertices)
       (λ q h. to-kept vertices ws _ h refl (λ x m. m))
@@ -86,7 +86,7 @@ module _ (ws : List ℕ) (formed : wellFormed limit ws ≡ true) where
       (λ q h. rw q (to-grown hyperedges ws _ h refl (add-hyperedge-live ms w (read limit ws))))
 
   updated : (k : Kind) (x : ℕ) (ms : List ℕ) → Moved k ws (edit (update x ms) ws .lent) []
-  unfolding edit live next Edits.updateHyperedge
+  unfolding edit live nextNumber Edits.updateHyperedge
   updated vertices x ms =
       update-goes (λ r. Moved vertices ws (r .lent) []) ws formed (λ a n. unchanged vertices) x ms
       (λ h. to-kept vertices ws _ h refl (λ v m. m))
@@ -95,8 +95,8 @@ module _ (ws : List ℕ) (formed : wellFormed limit ws ≡ true) where
       (λ h. to-kept hyperedges ws _ h refl (λ e m. rw (update-live x ms (read limit ws)) at m))
 
   -- any list of removals
-  removed-next : (k : Kind) (rs : List Removal) → next k (removeAll rs ws) ≡ next k ws
-  unfolding next withdrawn
+  removed-next : (k : Kind) (rs : List Removal) → nextNumber k (removeAll rs ws) ≡ nextNumber k ws
+  unfolding nextNumber withdrawn
   removed-next vertices rs = ap (nextOf vertices) (removals-content ws formed rs)
   removed-next hyperedges rs = ap (nextOf hyperedges) (removals-content ws formed rs)
 
@@ -109,8 +109,8 @@ module _ (ws : List ℕ) (formed : wellFormed limit ws ≡ true) where
   removed k rs = kept (removals-formed ws formed rs) (removed-next k rs) (removed-live k rs)
 
   -- every edit
-  pub edit-moved : (k : Kind) (e : Edit) → Moved k ws (edit e ws .lent) (gives k e ws)
-  unfolding edit gives removeAll Removals.remove
+  pub edit-moved : (k : Kind) (e : Edit) → Moved k ws (edit e ws .lent) (givenBy k e ws)
+  unfolding edit givenBy removeAll Removals.remove
   edit-moved k (addVertex w) = vertex-added k w
   edit-moved k (addHyperedge ms w) = hyperedge-added k ms w
   edit-moved k (update x ms) = updated k x ms

@@ -29,8 +29,8 @@ unfoldable pub live : Kind → List ℕ → List ℕ
 live k ws = ofKind k (liveVertices (read limit ws)) (liveHyperedges (read limit ws))
 
 -- the next number of a kind in a table's words
-unfoldable pub next : Kind → List ℕ → ℕ
-next k ws = ofKind k (read limit ws .nextVertex) (read limit ws .nextHyperedge)
+unfoldable pub nextNumber : Kind → List ℕ → ℕ
+nextNumber k ws = ofKind k (read limit ws .nextVertex) (read limit ws .nextHyperedge)
 
 -- ---- the calls
 
@@ -60,17 +60,17 @@ unfoldable pub answered : Result → List ℕ
 answered r = cond (eqb (r .number) 0) (r .detail ∷ []) []
 
 -- the number of the kind that one call gives: the answer of an add; where an identical hyperedge is live the answer is its number, and none is given
-unfoldable pub gives : Kind → Edit → List ℕ → List ℕ
-gives k (addVertex w) ws = ofKind k (answered (edit (addVertex w) ws)) []
-gives k (addHyperedge ms w) ws =
+unfoldable pub givenBy : Kind → Edit → List ℕ → List ℕ
+givenBy k (addVertex w) ws = ofKind k (answered (edit (addVertex w) ws)) []
+givenBy k (addHyperedge ms w) ws =
     ofKind k [] (cond (any (identical ms w) (read limit ws .hyperedges)) [] (answered (edit (addHyperedge ms w) ws)))
-gives k (update x ms) ws = []
-gives k (remove r) ws = []
+givenBy k (update x ms) ws = []
+givenBy k (remove r) ws = []
 
 -- the numbers of the kind that one call for each of the list gives, in that order
 unfoldable pub given : Kind → List Edit → List ℕ → List ℕ
 given k [] ws = []
-given k (e ∷ es) ws = gives k e ws ++ given k es (edit e ws .lent)
+given k (e ∷ es) ws = givenBy k e ws ++ given k es (edit e ws .lent)
 
 -- the numbers of the kind that are live at the start, and then those given on the way
 unfoldable pub seen : Kind → List Edit → List ℕ → List ℕ
@@ -85,12 +85,12 @@ pub record NotTwice (k : Kind) (es : List Edit) (ws : List ℕ) : Type 0 where
   -- the numbers live at the start and then those given, in their order, ascend strictly: none is given twice, and none that was live
   pub ascend : ascending (seen k es ws) ≡ true
   -- each number given is at or above the next number at the start
-  pub from-start : (x : ℕ) → memb x (given k es ws) ≡ true → next k ws ≤ x
+  pub from-start : (x : ℕ) → memb x (given k es ws) ≡ true → nextNumber k ws ≤ x
   -- each number live at the start or given is below the next number at the end
-  pub below-end : (x : ℕ) → memb x (seen k es ws) ≡ true → x < next k (after es ws)
+  pub below-end : (x : ℕ) → memb x (seen k es ws) ≡ true → x < nextNumber k (after es ws)
   -- the next number does not fall
-  pub no-fall : next k ws ≤ next k (after es ws)
+  pub no-fall : nextNumber k ws ≤ nextNumber k (after es ws)
   -- what is live at the end was live at the start or was given
   pub live-seen : (x : ℕ) → memb x (live k (after es ws)) ≡ true → memb x (seen k es ws) ≡ true
   -- what a further edit gives is above every number live at the start or given
-  pub further : (e : Edit) (x y : ℕ) → memb x (seen k es ws) ≡ true → memb y (gives k e (after es ws)) ≡ true → x < y
+  pub further : (e : Edit) (x y : ℕ) → memb x (seen k es ws) ≡ true → memb y (givenBy k e (after es ws)) ≡ true → x < y
