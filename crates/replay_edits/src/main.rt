@@ -6,12 +6,18 @@ use replay::reading;
 use replay::tables;
 use replay::tally;
 
+// The place of the function in the tally, behind those of the edits.
+const IS_EMPTY: usize = 7;
+
+// The kind of a record, by its first byte: what is asked of the whole table.
+const OF_TABLE: u32 = 8;
+
 // The record at `at`, and the place after it.
 fn record(s: &[u8], at: usize, t: &mut [u32], tally: &mut [u32]) -> usize {
     let first = reading::byte(s, at);
     let kind = first.value;
     match kind {
-        8 => judge::answer(s, first.at, is_empty(t), 7, tally),
+        OF_TABLE => judge::answer(s, first.at, is_empty(t), IS_EMPTY, tally),
         _ => tables::record(s, kind, first.at, t, tally),
     }
 }
@@ -29,11 +35,11 @@ fn records(s: &[u8], t: &mut [u32], tally: &mut [u32]) -> usize {
 }
 
 fn run(s: &[u8]) {
-    let mut t = [0u32; 7236];
+    let mut t = [0u32; layout::SIZE];
     let mut tally = [0u32; 64];
     let end = records(s, &mut t, &mut tally);
     tables::lines(&tally);
-    tally::line(b"is_empty", 7, &tally);
+    tally::line(b"is_empty", IS_EMPTY, &tally);
     tally::all(&tally);
     tables::say_end(end);
 }

@@ -6,6 +6,42 @@ use replay::rows;
 use replay::tables;
 use replay::tally;
 
+// The place of each function in the tally, behind those of the edits.
+const GET_ADJACENT_VERTICES_FROM: usize = 7;
+
+const GET_ADJACENT_VERTICES_TO: usize = 8;
+
+const GET_FULL_ADJACENT_VERTICES_FROM: usize = 9;
+
+const GET_FULL_ADJACENT_VERTICES_TO: usize = 10;
+
+const GET_VERTEX_DEGREE_IN: usize = 11;
+
+const GET_VERTEX_DEGREE_OUT: usize = 12;
+
+const GET_FULL_VERTEX_HYPEREDGES: usize = 13;
+
+const GET_VERTEX_NEIGHBORHOOD: usize = 14;
+
+const GET_HYPEREDGES_CONNECTING: usize = 15;
+
+const FIND_HYPEREDGES_BY_WEIGHT: usize = 16;
+
+const CONTAINS_VERTEX: usize = 17;
+
+const GET_VERTEX_INDEX: usize = 18;
+
+const GET_HYPEREDGES_INTERSECTIONS: usize = 19;
+
+// The kinds of the records, by their first byte: what is asked of a vertex, of two vertices, of a weight, of a list of hyperedges.
+const OF_VERTEX: u32 = 16;
+
+const OF_PAIR: u32 = 17;
+
+const OF_WEIGHT: u32 = 18;
+
+const OF_HYPEREDGES: u32 = 19;
+
 fn adjacent(
     s: &[u8],
     at: usize,
@@ -15,9 +51,9 @@ fn adjacent(
     tally: &mut [u32],
 ) -> usize {
     let a = lookups::get_adjacent_vertices_from(t, v, out);
-    let b = judge::listing(s, at, a, out, 7, tally);
+    let b = judge::listing(s, at, a, out, GET_ADJACENT_VERTICES_FROM, tally);
     let c = lookups::get_adjacent_vertices_to(t, v, out);
-    judge::listing(s, b, c, out, 8, tally)
+    judge::listing(s, b, c, out, GET_ADJACENT_VERTICES_TO, tally)
 }
 
 fn full_adjacent(
@@ -29,9 +65,9 @@ fn full_adjacent(
     tally: &mut [u32],
 ) -> usize {
     let a = lookups::get_full_adjacent_vertices_from(t, v, out);
-    let b = judge::listing(s, at, a, out, 9, tally);
+    let b = judge::listing(s, at, a, out, GET_FULL_ADJACENT_VERTICES_FROM, tally);
     let c = lookups::get_full_adjacent_vertices_to(t, v, out);
-    judge::listing(s, b, c, out, 10, tally)
+    judge::listing(s, b, c, out, GET_FULL_ADJACENT_VERTICES_TO, tally)
 }
 
 fn around(
@@ -42,12 +78,24 @@ fn around(
     out: &mut [u32],
     tally: &mut [u32],
 ) -> usize {
-    let b = judge::answer(s, at, lookups::get_vertex_degree_in(t, v), 11, tally);
-    let d = judge::answer(s, b, lookups::get_vertex_degree_out(t, v), 12, tally);
+    let b = judge::answer(
+        s,
+        at,
+        lookups::get_vertex_degree_in(t, v),
+        GET_VERTEX_DEGREE_IN,
+        tally,
+    );
+    let d = judge::answer(
+        s,
+        b,
+        lookups::get_vertex_degree_out(t, v),
+        GET_VERTEX_DEGREE_OUT,
+        tally,
+    );
     let e = lookups::get_full_vertex_hyperedges(t, v, out);
-    let f = rows::listing(s, d, e, out, 13, tally);
+    let f = rows::listing(s, d, e, out, GET_FULL_VERTEX_HYPEREDGES, tally);
     let g = lookups::get_vertex_neighborhood(t, v, out);
-    judge::listing(s, f, g, out, 14, tally)
+    judge::listing(s, f, g, out, GET_VERTEX_NEIGHBORHOOD, tally)
 }
 
 fn of_vertex(s: &[u8], at: usize, t: &[u32], out: &mut [u32], tally: &mut [u32]) -> usize {
@@ -61,16 +109,22 @@ fn of_pair(s: &[u8], at: usize, t: &[u32], out: &mut [u32], tally: &mut [u32]) -
     let x = reading::word(s, at);
     let y = reading::word(s, x.at);
     let a = lookups::get_hyperedges_connecting(t, VertexIndex(x.value), VertexIndex(y.value), out);
-    judge::listing(s, y.at, a, out, 15, tally)
+    judge::listing(s, y.at, a, out, GET_HYPEREDGES_CONNECTING, tally)
 }
 
 fn of_weight(s: &[u8], at: usize, t: &[u32], out: &mut [u32], tally: &mut [u32]) -> usize {
     let w = reading::word(s, at);
     let a = lookups::find_hyperedges_by_weight(t, w.value, out);
-    let b = judge::listing(s, w.at, a, out, 16, tally);
-    let d = judge::answer(s, b, lookups::contains_vertex(t, w.value), 17, tally);
+    let b = judge::listing(s, w.at, a, out, FIND_HYPEREDGES_BY_WEIGHT, tally);
+    let d = judge::answer(
+        s,
+        b,
+        lookups::contains_vertex(t, w.value),
+        CONTAINS_VERTEX,
+        tally,
+    );
     let e = lookups::get_vertex_index(t, w.value, out);
-    judge::listing(s, d, e, out, 18, tally)
+    judge::listing(s, d, e, out, GET_VERTEX_INDEX, tally)
 }
 
 fn of_hyperedges(s: &[u8], at: usize, t: &[u32], out: &mut [u32], tally: &mut [u32]) -> usize {
@@ -78,7 +132,7 @@ fn of_hyperedges(s: &[u8], at: usize, t: &[u32], out: &mut [u32], tally: &mut [u
     let l = reading::list(s, at, &mut hyperedges);
     let n = l.count;
     let a = lookups::get_hyperedges_intersections(t, &hyperedges[..n], out);
-    judge::listing(s, l.at, a, out, 19, tally)
+    judge::listing(s, l.at, a, out, GET_HYPEREDGES_INTERSECTIONS, tally)
 }
 
 // The record at `at`, and the place after it.
@@ -86,10 +140,10 @@ fn record(s: &[u8], at: usize, t: &mut [u32], out: &mut [u32], tally: &mut [u32]
     let first = reading::byte(s, at);
     let kind = first.value;
     match kind {
-        16 => of_vertex(s, first.at, t, out, tally),
-        17 => of_pair(s, first.at, t, out, tally),
-        18 => of_weight(s, first.at, t, out, tally),
-        19 => of_hyperedges(s, first.at, t, out, tally),
+        OF_VERTEX => of_vertex(s, first.at, t, out, tally),
+        OF_PAIR => of_pair(s, first.at, t, out, tally),
+        OF_WEIGHT => of_weight(s, first.at, t, out, tally),
+        OF_HYPEREDGES => of_hyperedges(s, first.at, t, out, tally),
         _ => tables::record(s, kind, first.at, t, tally),
     }
 }
@@ -108,24 +162,52 @@ fn records(s: &[u8], t: &mut [u32], out: &mut [u32], tally: &mut [u32]) -> usize
 
 fn lines(tally: &[u32]) {
     tables::lines(tally);
-    tally::line(b"get_adjacent_vertices_from", 7, tally);
-    tally::line(b"get_adjacent_vertices_to", 8, tally);
-    tally::line(b"get_full_adjacent_vertices_from", 9, tally);
-    tally::line(b"get_full_adjacent_vertices_to", 10, tally);
-    tally::line(b"get_vertex_degree_in", 11, tally);
-    tally::line(b"get_vertex_degree_out", 12, tally);
-    tally::line(b"get_full_vertex_hyperedges", 13, tally);
-    tally::line(b"get_vertex_neighborhood", 14, tally);
-    tally::line(b"get_hyperedges_connecting", 15, tally);
-    tally::line(b"find_hyperedges_by_weight", 16, tally);
-    tally::line(b"contains_vertex", 17, tally);
-    tally::line(b"get_vertex_index", 18, tally);
-    tally::line(b"get_hyperedges_intersections", 19, tally);
+    tally::line(
+        b"get_adjacent_vertices_from",
+        GET_ADJACENT_VERTICES_FROM,
+        tally,
+    );
+    tally::line(b"get_adjacent_vertices_to", GET_ADJACENT_VERTICES_TO, tally);
+    tally::line(
+        b"get_full_adjacent_vertices_from",
+        GET_FULL_ADJACENT_VERTICES_FROM,
+        tally,
+    );
+    tally::line(
+        b"get_full_adjacent_vertices_to",
+        GET_FULL_ADJACENT_VERTICES_TO,
+        tally,
+    );
+    tally::line(b"get_vertex_degree_in", GET_VERTEX_DEGREE_IN, tally);
+    tally::line(b"get_vertex_degree_out", GET_VERTEX_DEGREE_OUT, tally);
+    tally::line(
+        b"get_full_vertex_hyperedges",
+        GET_FULL_VERTEX_HYPEREDGES,
+        tally,
+    );
+    tally::line(b"get_vertex_neighborhood", GET_VERTEX_NEIGHBORHOOD, tally);
+    tally::line(
+        b"get_hyperedges_connecting",
+        GET_HYPEREDGES_CONNECTING,
+        tally,
+    );
+    tally::line(
+        b"find_hyperedges_by_weight",
+        FIND_HYPEREDGES_BY_WEIGHT,
+        tally,
+    );
+    tally::line(b"contains_vertex", CONTAINS_VERTEX, tally);
+    tally::line(b"get_vertex_index", GET_VERTEX_INDEX, tally);
+    tally::line(
+        b"get_hyperedges_intersections",
+        GET_HYPEREDGES_INTERSECTIONS,
+        tally,
+    );
     tally::all(tally);
 }
 
 fn run(s: &[u8]) {
-    let mut t = [0u32; 7236];
+    let mut t = [0u32; layout::SIZE];
     let mut out = [0u32; 8192];
     let mut tally = [0u32; 64];
     let end = records(s, &mut t, &mut out, &mut tally);
