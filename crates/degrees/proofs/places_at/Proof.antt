@@ -10,10 +10,10 @@ use Rattle.degrees.proofs.places_at.Statement.{statement}
 use Rattle.degrees.proofs.places_at.Tie as tie
 
 abbrev Inv-loop : tie.InvT-loop
-Inv-loop ms v arriving n₀ i₀ n i = (i ≤ length ms) × Counted (hasEnd arriving v) ms i n
+Inv-loop ms v dir n₀ i₀ n i = (i ≤ length ms) × Counted (hasEnd dir v) ms i n
 
 abbrev μ-loop : tie.MeasureT-loop
-μ-loop ms v arriving n₀ i₀ n i = length ms - i
+μ-loop ms v dir n₀ i₀ n i = length ms - i
 
 loop-holds : tie.Need-loop-holds Inv-loop μ-loop
 loop-holds c = (search needs, counted-none _ _)
