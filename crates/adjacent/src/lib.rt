@@ -17,9 +17,8 @@ use layout::Found;
 use layout::VertexIndex;
 use lookups::Direction;
 use lookups::Relation;
-use lookups::end_at;
+use lookups::ends_at;
 use lookups::holds;
-use lookups::opposite;
 
 // Marks the vertices to which a step of a list leads from v, or from which one leads to v.
 fn mark_ends(t: &[u32], list: &[u32], v: u32, dir: Direction, marks: &mut [bool; 256])
@@ -29,8 +28,9 @@ fn mark_ends(t: &[u32], list: &[u32], v: u32, dir: Direction, marks: &mut [bool;
 {
     let mut i = 0;
     while i + 1 < list.len() {
-        if end_at(list, i, dir) == v {
-            marks::mark(t, end_at(list, i, opposite(dir)), marks);
+        let ends = ends_at(list, i, dir);
+        if ends.near == v {
+            marks::mark(t, ends.far, marks);
         }
         i += 1;
     }

@@ -11,7 +11,7 @@ use layout::Answer;
 use layout::Found;
 use layout::VertexIndex;
 use lookups::Direction;
-use lookups::end_at;
+use lookups::ends_at;
 
 // The places of a list at which a step leads from v, or to v.
 fn places_at(ms: &[u32], v: u32, dir: Direction) -> usize
@@ -20,7 +20,8 @@ fn places_at(ms: &[u32], v: u32, dir: Direction) -> usize
     let mut n: usize = 0;
     let mut i = 0;
     while i + 1 < ms.len() {
-        if end_at(ms, i, dir) == v {
+        let ends = ends_at(ms, i, dir);
+        if ends.near == v {
             n += 1;
         }
         i += 1;

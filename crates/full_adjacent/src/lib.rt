@@ -17,8 +17,7 @@ use layout::Answer;
 use layout::Found;
 use layout::VertexIndex;
 use lookups::Direction;
-use lookups::end_at;
-use lookups::opposite;
+use lookups::ends_at;
 
 // One place more of vertex x, where it is live.
 fn tally(t: &[u32], x: u32, counts: &mut [usize; 256])
@@ -42,8 +41,9 @@ fn tally_record(t: &[u32], j: usize, v: u32, dir: Direction, counts: &mut [usize
     let ms = layout::members_formed(t, j);
     let mut i = 0;
     while i + 1 < ms.len() {
-        if end_at(ms, i, dir) == v {
-            tally(t, end_at(ms, i, opposite(dir)), counts);
+        let ends = ends_at(ms, i, dir);
+        if ends.near == v {
+            tally(t, ends.far, counts);
         }
         i += 1;
     }

@@ -11,8 +11,7 @@ ghost use Rattle.lookups.specs.State.{listingMost, listingAhead, nothing, tally
 use layout::Found;
 use layout::VertexIndex;
 use lookups::Direction;
-use lookups::end_at;
-use lookups::opposite;
+use lookups::ends_at;
 
 // The words of a vertex with so many hyperedges.
 pub fn words_for(count: usize) -> usize
@@ -93,8 +92,9 @@ fn fill_record(
     let e = layout::hyperedge_number(t, j);
     let mut i = 0;
     while i + 1 < ms.len() {
-        if end_at(ms, i, dir) == v {
-            put(t, end_at(ms, i, opposite(dir)), e, nexts, out);
+        let ends = ends_at(ms, i, dir);
+        if ends.near == v {
+            put(t, ends.far, e, nexts, out);
         }
         i += 1;
     }

@@ -24,10 +24,11 @@ use Rattle.marks.specs.Marks.{isMarked, marking, marked}
 use Rattle.marks.proofs.Marked.{marking-at, marked-filter}
 use Rattle.lookups.specs.declared.Direction.{Direction}
 use Rattle.lookups.specs.declared.Direction.the-variants.{From, To}
+use Rattle.lookups.specs.declared.Ends.{Ends}
 use Rattle.lookups.specs.declared.Relation.{Relation}
 use Rattle.lookups.specs.declared.Relation.the-variants.{Along, Around}
 use Rattle.lookups.specs.Lookups.{along, coMember, relates}
-use Rattle.lookups.specs.State.{opposite, end, someOf, with, isOther, noMarks, MarkedBy}
+use Rattle.lookups.specs.State.{ends, someOf, with, isOther, noMarks, MarkedBy}
 
 -- ---- one mark more
 
@@ -81,18 +82,18 @@ marked-as {live} {p} {q} {old} h b = record { sized = b .sized; each = λ k l. b
 pub marked-same : {live : List ℕ} {p : ℕ → Bool} {old : List Bool} → ((y : ℕ) → p y ≡ false) → MarkedBy live p old old
 marked-same {live} {p} {old} h = record { sized = refl; each = λ k l. sym (or-false (isMarked old k)) ∙ ap (λ (t : Bool). isMarked old k || t) (sym (h (getD live k 0))) }
 
--- ---- the step at a place: z is its end that the code compared with v, x the other
+-- ---- the step at a place: x is its ends, and the code compared the near one with v
 
 module _ (v : ℕ) (s : Step) where
-  pub step-yes : (dir : Direction) {o : Direction} {z x : ℕ} → z ≡ end dir s → z ≡ v → o ≡ opposite dir → x ≡ end o s → (y : ℕ) → eqb y x ≡ along dir isStep v y s
+  pub step-yes : (dir : Direction) {x : Ends} → x ≡ ends dir s → x .near ≡ v → (y : ℕ) → eqb y (x .far) ≡ along dir isStep v y s
   unfolding isStep _and_
-  step-yes From {o} {z} {x} e h p q y = rw (eq-eqb (s .from) v (sym e ∙ h), q, p) (eqb-comm y (s .to))
-  step-yes To {o} {z} {x} e h p q y = rw (eq-eqb (s .to) v (sym e ∙ h), q, p) (eqb-comm y (s .from) ∙ sym (and-true (eqb (s .from) y)))
+  step-yes From {x} e h y = rw (eq-eqb (s .from) v (ap (λ (z : Ends). z .near) (sym e) ∙ h), e) (eqb-comm y (s .to))
+  step-yes To {x} e h y = rw (eq-eqb (s .to) v (ap (λ (z : Ends). z .near) (sym e) ∙ h), e) (eqb-comm y (s .from) ∙ sym (and-true (eqb (s .from) y)))
 
-  pub step-no : (dir : Direction) {z : ℕ} → z ≡ end dir s → (z ≡ v → ⊥) → (y : ℕ) → along dir isStep v y s ≡ false
+  pub step-no : (dir : Direction) {x : Ends} → x ≡ ends dir s → (x .near ≡ v → ⊥) → (y : ℕ) → along dir isStep v y s ≡ false
   unfolding isStep
-  step-no From {z} e h y = and-false-left _ _ (ne-eqb (s .from) v (λ q. h (e ∙ q)))
-  step-no To {z} e h y = and-false-right _ _ (ne-eqb (s .to) v (λ q. h (e ∙ q)))
+  step-no From {x} e h y = and-false-left _ _ (ne-eqb (s .from) v (λ q. h (ap (λ (z : Ends). z .near) e ∙ q)))
+  step-no To {x} e h y = and-false-right _ _ (ne-eqb (s .to) v (λ q. h (ap (λ (z : Ends). z .near) e ∙ q)))
 
 -- ---- the member at a place
 

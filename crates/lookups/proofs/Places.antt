@@ -20,8 +20,9 @@ use Rattle.layout.specs.Inner.{Formed}
 use Rattle.layout.proofs.Read.{members-le}
 use Rattle.lookups.specs.declared.Direction.{Direction}
 use Rattle.lookups.specs.declared.Direction.the-variants.{From, To}
+use Rattle.lookups.specs.declared.Ends.{Ends}
 use Rattle.lookups.specs.Lookups.{hasEnd, places, placesIn}
-use Rattle.lookups.specs.State.{end, stepAt}
+use Rattle.lookups.specs.State.{ends, stepAt}
 
 -- ---- a loop over i along the steps of ms
 
@@ -38,26 +39,26 @@ steps-end (x ∷ []) zero h = refl
 steps-end (x ∷ y ∷ ms) zero h = absurd (not-suc-le-zero (le-of-suc-le-suc (rw (add-one 0) at h)))
 steps-end (x ∷ ms) (suc i) h = steps-end ms i (omega arith)
 
--- an end of the step at place i: the code went by the direction
+-- the ends of the step at place i: the code went by the direction
 module _ (dir : Direction) (ms : List ℕ) (i : ℕ) where
-  pub end-from : dir ≡ From → getD ms i 0 ≡ end dir (stepAt ms i)
-  end-from e = rw e
+  pub ends-from : dir ≡ From → record { near = getD ms i 0; far = getD ms (i + 1) 0 } ≡ ends dir (stepAt ms i)
+  ends-from e = rw e
 
-  pub end-to : dir ≡ To → getD ms (i + 1) 0 ≡ end dir (stepAt ms i)
-  end-to e = rw e
+  pub ends-to : dir ≡ To → record { near = getD ms (i + 1) 0; far = getD ms i 0 } ≡ ends dir (stepAt ms i)
+  ends-to e = rw e
 
-has-end : (dir : Direction) (v : ℕ) (s : Step) → hasEnd dir v s ≡ eqb (end dir s) v
+has-end : (dir : Direction) (v : ℕ) (s : Step) → hasEnd dir v s ≡ eqb (ends dir s .near) v
 unfolding hasEnd
 has-end From v s = refl
 has-end To v s = refl
 
--- x is what `end_at` found, and the code compared it with v
-module _ (dir : Direction) (v : ℕ) (s : Step) (x : ℕ) (e : x ≡ end dir s) where
-  pub end-here : x ≡ v → hasEnd dir v s ≡ true
-  end-here h = has-end dir v s ∙ eq-eqb _ _ (sym e ∙ h)
+-- x is what `ends_at` found, and the code compared its near end with v
+module _ (dir : Direction) (v : ℕ) (s : Step) (x : Ends) (e : x ≡ ends dir s) where
+  pub end-here : x .near ≡ v → hasEnd dir v s ≡ true
+  end-here h = has-end dir v s ∙ rw (← e) (eq-eqb (x .near) v h)
 
-  pub end-other : (x ≡ v → ⊥) → hasEnd dir v s ≡ false
-  end-other h = has-end dir v s ∙ ne-eqb _ _ (λ q. h (e ∙ q))
+  pub end-other : (x .near ≡ v → ⊥) → hasEnd dir v s ≡ false
+  end-other h = has-end dir v s ∙ rw (← e) (ne-eqb (x .near) v h)
 
 -- ---- places
 

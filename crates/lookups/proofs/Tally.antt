@@ -23,10 +23,11 @@ use Rattle.layout.proofs.Position.{position-found, position-missing}
 use Rattle.layout.proofs.Read.{live-length, vertex-found}
 use Rattle.lookups.specs.declared.Direction.{Direction}
 use Rattle.lookups.specs.declared.Direction.the-variants.{From, To}
+use Rattle.lookups.specs.declared.Ends.{Ends}
 use Rattle.lookups.specs.declared.Listing.{Listing}
 use Rattle.lookups.specs.declared.Listing.the-variants.{Connecting}
 use Rattle.lookups.specs.Lookups.{along, places, placesIn, block, listing, connecting}
-use Rattle.lookups.specs.State.{opposite, end, stepAt, blockLength, listingMost, listingAhead, nothing, tallying, Tallied}
+use Rattle.lookups.specs.State.{ends, stepAt, blockLength, listingMost, listingAhead, nothing, tallying, Tallied}
 use Rattle.lookups.proofs.Places.{places-more, places-none, records-more, records-none}
 use Rattle.lookups.proofs.Marking.{step-yes, step-no}
 use Rattle.lookups.proofs.Laid.{block-most}
@@ -51,23 +52,23 @@ passing-first L ws j v dir ms e h q s y =
     ∙ rw (q, s)
 
 module _ (dir : Direction) (v e : ℕ) (ms : List ℕ) (i : ℕ) (rest : ℕ → List ℕ) where
-  -- z is the end of the step at place i that the code compared with v, x the other
-  pub passing-yes : (o : Direction) (z x : ℕ) → i + 1 < length ms → z ≡ end dir (stepAt ms i) → z ≡ v → o ≡ opposite dir → x ≡ end o (stepAt ms i)
-      → (y : ℕ) → passing dir v e ms i rest y ≡ cond (eqb y x) (e ∷ passing dir v e ms (i + 1) rest y) (passing dir v e ms (i + 1) rest y)
+  -- x is the ends of the step at place i, and the code compared the near one with v
+  pub passing-yes : (x : Ends) → i + 1 < length ms → x ≡ ends dir (stepAt ms i) → x .near ≡ v
+      → (y : ℕ) → passing dir v e ms i rest y ≡ cond (eqb y (x .far)) (e ∷ passing dir v e ms (i + 1) rest y) (passing dir v e ms (i + 1) rest y)
   unfolding passing
-  passing-yes o z x h a b p d y = on (eqb y x)
-      (λ q. rw (q, one-more true (sym (step-yes v (stepAt ms i) dir a b p d y) ∙ q)))
-      (λ q. rw (q, one-more false (sym (step-yes v (stepAt ms i) dir a b p d y) ∙ q)))
+  passing-yes x h a b y = on (eqb y (x .far))
+      (λ q. rw (q, one-more true (sym (step-yes v (stepAt ms i) dir a b y) ∙ q)))
+      (λ q. rw (q, one-more false (sym (step-yes v (stepAt ms i) dir a b y) ∙ q)))
     where
       one-more : (b : Bool) → along dir isStep v y (stepAt ms i) ≡ b
           → places (along dir isStep v y) (drop i ms) ≡ cond b (suc (places (along dir isStep v y) (drop (i + 1) ms))) (places (along dir isStep v y) (drop (i + 1) ms))
       one-more true q = omega (arith, places-more (along dir isStep v y) ms i true h q)
       one-more false q = omega (arith, places-more (along dir isStep v y) ms i false h q)
 
-  pub passing-no : (z : ℕ) → i + 1 < length ms → z ≡ end dir (stepAt ms i) → (z ≡ v → ⊥)
+  pub passing-no : (x : Ends) → i + 1 < length ms → x ≡ ends dir (stepAt ms i) → (x .near ≡ v → ⊥)
       → (y : ℕ) → passing dir v e ms i rest y ≡ passing dir v e ms (i + 1) rest y
   unfolding passing
-  passing-no z h a b y =
+  passing-no x h a b y =
       let q : places (along dir isStep v y) (drop i ms) ≡ places (along dir isStep v y) (drop (i + 1) ms) =
       omega (arith, places-more (along dir isStep v y) ms i false h (step-no v (stepAt ms i) dir a b y)) in
       rw q

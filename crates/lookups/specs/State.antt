@@ -14,6 +14,7 @@ use Rattle.layout.specs.Layout.{vertexLimit, hyperedgeLimit, limit, vertexAt}
 use Rattle.marks.specs.Marks.{isMarked}
 use Rattle.lookups.specs.declared.Direction.{Direction}
 use Rattle.lookups.specs.declared.Direction.the-variants.{From, To}
+use Rattle.lookups.specs.declared.Ends.{Ends}
 use Rattle.lookups.specs.declared.Listing.the-variants.{Connecting}
 use Rattle.lookups.specs.Lookups.{along, block, weighs, listing}
 use Rattle.layout.specs.Steps.{Step}
@@ -134,15 +135,10 @@ pub record Filling (live : List ℕ) (whole left : ℕ → List ℕ) (nexts out 
   pub done : (k p : ℕ) → k < length live → offset live whole k ≤ p → p < getD nexts k 0
       → getD out p 0 ≡ getD (fullWords whole (getD live k 0)) (p - offset live whole k) 0
 
--- the direction of a step, seen from its other end
-abbrev pub opposite : Direction → Direction
-opposite From = To
-opposite To = From
-
--- where a step starts, or where it arrives
-abbrev pub end : Direction → Step → ℕ
-end From s = s .from
-end To s = s .to
+-- near is where the step starts and far where it arrives, or the other way round
+abbrev pub ends : Direction → Step → Ends
+ends From s = record { near = s .from; far = s .to }
+ends To s = record { near = s .to; far = s .from }
 
 -- the step at place i of a list
 abbrev pub stepAt : List ℕ → ℕ → Step

@@ -3,7 +3,7 @@ ghost use mathlib.Core.Path.{_≡_};
 ghost use Prim.Native.Nat.{_+_, _<_};
 ghost use lib.ListN.{length};
 ghost use Rattle.lists.specs.Lists.{memb};
-ghost use Rattle.lookups.specs.State.{opposite, end, stepAt};
+ghost use Rattle.lookups.specs.State.{ends, stepAt};
 
 // A direction of steps, seen from a vertex v. From: the steps that lead from v, to a vertex right after it in a list. To: the
 // steps that lead to v, from a vertex right before it.
@@ -25,24 +25,28 @@ pub enum Listing {
     Holding(u32),
 }
 
-// The direction of a step, seen from its other end.
-pub fn opposite(dir: Direction) -> Direction
-    ensures { λ r. ⌜ r ≡ opposite dir ⌝ }
-{
-    match dir {
-        Direction::From => Direction::To,
-        Direction::To => Direction::From,
-    }
+// The ends of a step that is seen in a direction: the end from which it is seen, and the other.
+pub struct Ends {
+    pub near: u32,
+    pub far: u32,
 }
 
-// Where the step at place i starts, or where it arrives.
-pub fn end_at(ms: &[u32], i: usize, dir: Direction) -> u32
+// The ends of the step at place i.
+pub fn ends_at(ms: &[u32], i: usize, dir: Direction) -> Ends
     requires { ⌜ i + 1 < length (now ms) ⌝ }
-    ensures { λ r. ⌜ r ≡ end dir (stepAt (now (ms .entry)) i) ⌝ }
+    ensures { λ r. ⌜ r ≡ ends dir (stepAt (now (ms .entry)) i) ⌝ }
 {
+    let from = ms[i];
+    let to = ms[i + 1];
     match dir {
-        Direction::From => ms[i],
-        Direction::To => ms[i + 1],
+        Direction::From => Ends {
+            near: from,
+            far: to,
+        },
+        Direction::To => Ends {
+            near: to,
+            far: from,
+        },
     }
 }
 

@@ -1,7 +1,7 @@
 -- For every call: each refusal is given then and only then, by the first of its grounds that applies, and changes no lent word. What is judged
 -- is what the call's promise says that it leaves. Assumes nothing.
 use mathlib.Core.Path.{_≡_, refl}
-use mathlib.Core.Bool.{Bool, cond}
+use mathlib.Core.Bool.{cond}
 use mathlib.Core.List.{List, [], _∷_, _++_}
 use Prim.Native.Nat.{ℕ}
 use lib.Dec.{eqb}

@@ -1,5 +1,4 @@
 -- Cases beside the rules' sheets. Assumes nothing.
-use mathlib.Core.Bool.{true, false}
 use mathlib.Core.List.{List, [], _∷_}
 use Prim.Native.Nat.{ℕ}
 use Rattle.layout.specs.declared.Answer.the-variants.{Done, NoRoom}

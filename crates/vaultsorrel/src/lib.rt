@@ -1,7 +1,6 @@
 // The C interface: each function calls the entry point of its name and gives its answer as number and detail.
 ghost use mathlib.Core.Path.{_≡_};
 ghost use mathlib.Core.List.{[]};
-ghost use mathlib.Core.Bool.{false, true};
 ghost use Rattle.layout.specs.Answers.{onFormed};
 ghost use Rattle.edits.specs.Results.{addVertexResult, addHyperedgeResult, updateResult, removeVertexResult, removeHyperedgeResult, clearResult, emptyResult};
 ghost use Rattle.vaultsorrel.specs.Replies.{replied};

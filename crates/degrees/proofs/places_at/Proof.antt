@@ -21,8 +21,8 @@ loop-holds c = (search needs, counted-none _ _)
 add-loop : tie.Need-add-loop Inv-loop μ-loop
 add-loop c = search needs
 
-end-at-requires : tie.Need-end-at-requires Inv-loop μ-loop
-end-at-requires c κs = search needs
+ends-at-requires : tie.Need-ends-at-requires Inv-loop μ-loop
+ends-at-requires c κs = search needs
 
 add-n : tie.Need-add-n Inv-loop μ-loop
 add-n c = search needs
@@ -35,11 +35,11 @@ loop-less c = search needs
 
 loop-again : tie.Need-loop-again Inv-loop μ-loop
 loop-again c =
-    let k = c .before .before .before in let h = c .before .before .loop-test .taken in (
+    let m = c .before .before in let k = m .before .before in let h = m .before .loop-test .taken in (
       omega arith,
       ⊎-elim
-          (λ w. counted-yes (k .loop .inv .1) h (end-here _ _ _ _ (c .before .end-at .ensures) (w .0 .taken)) (w .1))
-          (λ w. counted-no (k .loop .inv .1) h (end-other _ _ _ _ (c .before .end-at .ensures) (w .0 .left)) (w .1))
+          (λ w. counted-yes (k .loop .inv .1) h (end-here _ _ _ _ (m .ends-at .ensures) (w .0 .taken)) (w .1))
+          (λ w. counted-no (k .loop .inv .1) h (end-other _ _ _ _ (m .ends-at .ensures) (w .0 .left)) (w .1))
           (c .if1 .came),
     )
 
@@ -54,7 +54,7 @@ places-at-spec =
     μ-loop
     loop-holds
     add-loop
-    end-at-requires
+    ends-at-requires
     add-n
     add-i
     loop-less

@@ -31,17 +31,11 @@ loop-holds c = let s = c .before .before in (search needs, tallied-as (s .pre .1
 add-loop : tie.Need-add-loop Inv-loop μ-loop
 add-loop c = search needs
 
-end-at-requires : tie.Need-end-at-requires Inv-loop μ-loop
-end-at-requires c κs = search needs
-
-opposite-requires : tie.Need-opposite-requires Inv-loop μ-loop
-opposite-requires c κs = search needs
-
-end-at-requires-2 : tie.Need-end-at-requires-2 Inv-loop μ-loop
-end-at-requires-2 c κs = search needs
+ends-at-requires : tie.Need-ends-at-requires Inv-loop μ-loop
+ends-at-requires c κs = search needs
 
 tally-requires : tie.Need-tally-requires Inv-loop μ-loop
-tally-requires c κs = let l = c .before .before .before .before .before .before in let s = l .before .before .before in (search needs, λ k h. tallied-most (l .loop .inv .1) listingMost (λ y. connecting-most (now (s .args .t)) (s .args .dir) (s .args .v) y (s .pre .0)) k (omega (arith, live-length limit (now (s .args .t)))))
+tally-requires c κs = let l = c .before .before .before .before .before in let s = l .before .before .before in (search needs, λ k h. tallied-most (l .loop .inv .1) listingMost (λ y. connecting-most (now (s .args .t)) (s .args .dir) (s .args .v) y (s .pre .0)) k (omega (arith, live-length limit (now (s .args .t)))))
 
 add-i : tie.Need-add-i Inv-loop μ-loop
 add-i c = search needs
@@ -51,12 +45,12 @@ loop-less c = search needs
 
 loop-again : tie.Need-loop-again Inv-loop μ-loop
 loop-again c =
-    let l = c .before .before .before in let s = l .before .before .before in let h = c .before .before .loop-test .taken in
-    let e = c .before .end-at .ensures in let f = s .pre .0 in (
+    let m = c .before .before in let l = m .before .before in let s = l .before .before .before in
+    let h = m .before .loop-test .taken in let e = m .ends-at .ensures in let f = s .pre .0 in (
       omega arith,
       ⊎-elim
           (λ w. tallied-one (l .loop .inv .1) _ _ (live-ascends limit (now (s .args .t)) f) (live-fit limit (now (s .args .t)) f)
-          (passing-yes (s .args .dir) _ _ _ _ _ _ _ _ h e (w .0 .taken) (w .1 .ensures) (w .2 .ensures)) (w .5 ∙ w .4 .ensures))
+          (passing-yes (s .args .dir) _ _ _ _ _ _ h e (w .0 .taken)) (w .3 ∙ w .2 .ensures))
           (λ w. tallied-as (l .loop .inv .1) (passing-no (s .args .dir) _ _ _ _ _ _ h e (w .0 .left)) (w .1))
           (c .if1 .came),
     )
@@ -73,9 +67,7 @@ tally-record-spec =
     members-formed-requires
     loop-holds
     add-loop
-    end-at-requires
-    opposite-requires
-    end-at-requires-2
+    ends-at-requires
     tally-requires
     add-i
     loop-less

@@ -38,24 +38,18 @@ loop-holds c = let s = c .before .before .before .before in (search needs, (fill
 add-loop : tie.Need-add-loop Inv-loop μ-loop
 add-loop c = search needs
 
-end-at-requires : tie.Need-end-at-requires Inv-loop μ-loop
-end-at-requires c κs = search needs
-
-opposite-requires : tie.Need-opposite-requires Inv-loop μ-loop
-opposite-requires c κs = search needs
-
-end-at-requires-2 : tie.Need-end-at-requires-2 Inv-loop μ-loop
-end-at-requires-2 c κs = search needs
+ends-at-requires : tie.Need-ends-at-requires Inv-loop μ-loop
+ends-at-requires c κs = search needs
 
 put-requires : tie.Need-put-requires Inv-loop μ-loop
 put-requires c κs =
-    let o = c .before .before .before in let l = o .before .before .before .before in let s = l .before .before .before .before .before in let f = s .pre .0 in (
+    let m = c .before .before .before .before in let l = m .before .before in let s = l .before .before .before .before .before in let f = s .pre .0 in (
       search needs,
       filling-room (l .loop .inv .1 .0) _ (l .before .hyperedge-number .result)
           (passing (s .args .dir) (s .args .v) (l .before .hyperedge-number .result) (now (l .before .before .members-formed .result)) (l .loop .i + 1)
           (listingAhead (s .args .dir) (read limit (now (s .args .t))) (s .args .v) (s .args .j + 1)))
           (live-ascends limit (now (s .args .t)) f) (live-fit limit (now (s .args .t)) f)
-          (passing-yes (s .args .dir) _ _ _ _ _ _ _ _ (o .before .before .before .loop-test .taken) (o .before .before .end-at .ensures) (o .before .if1 .taken) (o .opposite .ensures) (c .before .before .end-at2 .ensures)),
+          (passing-yes (s .args .dir) _ _ _ _ _ _ (m .before .loop-test .taken) (m .ends-at .ensures) (c .before .before .if1 .taken)),
     )
 
 add-i : tie.Need-add-i Inv-loop μ-loop
@@ -66,12 +60,12 @@ loop-less c = search needs
 
 loop-again : tie.Need-loop-again Inv-loop μ-loop
 loop-again c =
-    let l = c .before .before .before in let s = l .before .before .before .before .before in let h = c .before .before .loop-test .taken in
-    let e = c .before .end-at .ensures in let f = s .pre .0 in (
+    let m = c .before .before in let l = m .before .before in let s = l .before .before .before .before .before in
+    let h = m .before .loop-test .taken in let e = m .ends-at .ensures in let f = s .pre .0 in (
       omega arith,
       ⊎-elim
           (λ w. fill-yes (l .loop .inv .1 .0) (l .loop .inv .1 .1) _ _ (live-ascends limit (now (s .args .t)) f) (live-fit limit (now (s .args .t)) f)
-          (passing-yes (s .args .dir) _ _ _ _ _ _ _ _ h e (w .0 .taken) (w .1 .ensures) (w .2 .ensures)) (w .8 ∙ w .5 .ensures .0) (w .9 ∙ w .5 .ensures .1))
+          (passing-yes (s .args .dir) _ _ _ _ _ _ h e (w .0 .taken)) (w .6 ∙ w .3 .ensures .0) (w .7 ∙ w .3 .ensures .1))
           (λ w. fill-no (l .loop .inv .1 .0) (l .loop .inv .1 .1) (passing-no (s .args .dir) _ _ _ _ _ _ h e (w .0 .left)) (w .1) (w .2))
           (c .if1 .came),
     )
@@ -92,9 +86,7 @@ fill-record-spec =
     hyperedge-number-requires
     loop-holds
     add-loop
-    end-at-requires
-    opposite-requires
-    end-at-requires-2
+    ends-at-requires
     put-requires
     add-i
     loop-less
