@@ -1,7 +1,7 @@
 -- For every call: each refusal is given then and only then, by the first of its grounds that applies, and changes no lent word. What is judged
 -- is what the call's promise says that it leaves. Assumes nothing.
 use mathlib.Core.Path.{_≡_, refl}
-use mathlib.Core.Bool.{Bool, cond}
+use mathlib.Core.Bool.{cond}
 use mathlib.Core.List.{List, [], _∷_, _++_}
 use Prim.Native.Nat.{ℕ}
 use lib.Dec.{eqb}
@@ -13,6 +13,7 @@ use Rattle.layout.specs.Content.{Table, liveVertices, liveHyperedges}
 use Rattle.layout.specs.Layout.{vertexLimit, hyperedgeLimit, limit, size, words, read}
 use Rattle.layout.specs.Answers.{Result, result, onFormed, onLive, listed, vertexMissing, hyperedgeMissing, onLiveVertices}
 use Rattle.edits.specs.Results.{addVertexResult, addHyperedgeResult, updateResult, removeVertexResult, removeHyperedgeResult, clearResult, emptyResult}
+use Rattle.lookups.specs.declared.Direction.{Direction}
 use Rattle.lookups.specs.declared.Relation.{Relation}
 use Rattle.lookups.specs.declared.Listing.the-variants.{Connecting, Weighing, Holding}
 use Rattle.lookups.specs.Lookups.{related, shared, degree, listing, fullAdjacent, verticesWeighing, hasVertexWeighing}
@@ -106,9 +107,9 @@ module _ (ws : List ℕ) where
     unfolding relatedResult
     related-judged how v = listing-judged (v ∷ []) (related how v (content ws)) (relatedResult how v out) refl
 
-    pub full-adjacent-judged : (arriving : Bool) (v : ℕ) → Judged (listingGrounds (v ∷ []) (fullAdjacent arriving v (content ws)) out ws) out (onFormed ws out (fullAdjacentResult arriving v out))
+    pub full-adjacent-judged : (dir : Direction) (v : ℕ) → Judged (listingGrounds (v ∷ []) (fullAdjacent dir v (content ws)) out ws) out (onFormed ws out (fullAdjacentResult dir v out))
     unfolding fullAdjacentResult
-    full-adjacent-judged arriving v = listing-judged (v ∷ []) (fullAdjacent arriving v (content ws)) (fullAdjacentResult arriving v out) refl
+    full-adjacent-judged dir v = listing-judged (v ∷ []) (fullAdjacent dir v (content ws)) (fullAdjacentResult dir v out) refl
 
     pub connecting-judged : (x y : ℕ) → Judged (listingGrounds (x ∷ []) (listing (Connecting x y) (content ws)) out ws) out (onFormed ws out (connectingResult x y out))
     unfolding listingResult
@@ -202,9 +203,9 @@ module _ (ws : List ℕ) where
   unfolding onLive
   contains-judged w = answering [] (bit (hasVertexWeighing w (content ws))) (containsResult w) refl
 
-  pub degree-judged : (arriving : Bool) (v : ℕ) → Judged (vertexGrounds (v ∷ []) ws) [] (onFormed ws [] (degreeResult arriving v))
+  pub degree-judged : (dir : Direction) (v : ℕ) → Judged (vertexGrounds (v ∷ []) ws) [] (onFormed ws [] (degreeResult dir v))
   unfolding degreeResult
-  degree-judged arriving v = answering (v ∷ []) (degree arriving v (content ws)) (degreeResult arriving v) refl
+  degree-judged dir v = answering (v ∷ []) (degree dir v (content ws)) (degreeResult dir v) refl
 
   pub reachable-judged : (x y : ℕ) → Judged (vertexGrounds (x ∷ y ∷ []) ws) [] (onFormed ws [] (reachableResult x y))
   unfolding reachableResult
