@@ -7,7 +7,7 @@ ghost use Rattle.layout.specs.Layout.{limit, vertexLimit, hyperedgeCount, hyper
 ghost use Rattle.layout.specs.Inner.{Formed};
 ghost use Rattle.layout.specs.Steps.{stepsOf, isStep};
 ghost use Rattle.layout.specs.Answers.{result, onFormed};
-ghost use Rattle.lookups.specs.Lookups.{along, relates, isRelated};
+ghost use Rattle.lookups.specs.Lookups.{oriented, relates, isRelated};
 ghost use Rattle.lookups.specs.State.{someOf, with, isOther, noMarks, MarkedBy};
 ghost use Rattle.lookups.specs.Results.{relatedResult};
 ghost use Rattle.lookups.specs.declared.Direction.the-variants.{From, To};
@@ -24,7 +24,7 @@ use lookups::holds;
 fn mark_ends(t: &[u32], list: &[u32], v: u32, dir: Direction, marks: &mut [bool; 256])
     requires { ⌜ Formed limit (now t) ⌝ }
     requires { ⌜ length (now marks) ≡ vertexLimit ⌝ }
-    ensures { λ _. ⌜ MarkedBy (liveVertices (read limit (now (t .entry)))) (someOf (along dir isStep v) (stepsOf (now (list .entry)))) (now (marks .entry)) (now (marks .exit)) ⌝ }
+    ensures { λ _. ⌜ MarkedBy (liveVertices (read limit (now (t .entry)))) (someOf (oriented dir isStep v) (stepsOf (now (list .entry)))) (now (marks .entry)) (now (marks .exit)) ⌝ }
 {
     let mut i = 0;
     while i + 1 < list.len() {

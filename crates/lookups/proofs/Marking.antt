@@ -27,8 +27,8 @@ use Rattle.lookups.specs.declared.Direction.the-variants.{From, To}
 use Rattle.lookups.specs.declared.Ends.{Ends}
 use Rattle.lookups.specs.declared.Relation.{Relation}
 use Rattle.lookups.specs.declared.Relation.the-variants.{Along, Around}
-use Rattle.lookups.specs.Lookups.{along, coMember, relates}
-use Rattle.lookups.specs.State.{ends, someOf, with, isOther, noMarks, MarkedBy}
+use Rattle.lookups.specs.Lookups.{oriented, coMember, relates}
+use Rattle.lookups.specs.State.{endsOf, someOf, with, isOther, noMarks, MarkedBy}
 
 -- ---- one mark more
 
@@ -85,12 +85,12 @@ marked-same {live} {p} {old} h = record { sized = refl; each = λ k l. sym (or-f
 -- ---- the step at a place: x is its ends, and the code compared the near one with v
 
 module _ (v : ℕ) (s : Step) where
-  pub step-yes : (dir : Direction) {x : Ends} → x ≡ ends dir s → x .near ≡ v → (y : ℕ) → eqb y (x .far) ≡ along dir isStep v y s
+  pub step-yes : (dir : Direction) {x : Ends} → x ≡ endsOf dir s → x .near ≡ v → (y : ℕ) → eqb y (x .far) ≡ oriented dir isStep v y s
   unfolding isStep _and_
   step-yes From {x} e h y = rw (eq-eqb (s .from) v (ap (λ (z : Ends). z .near) (sym e) ∙ h), e) (eqb-comm y (s .to))
   step-yes To {x} e h y = rw (eq-eqb (s .to) v (ap (λ (z : Ends). z .near) (sym e) ∙ h), e) (eqb-comm y (s .from) ∙ sym (and-true (eqb (s .from) y)))
 
-  pub step-no : (dir : Direction) {x : Ends} → x ≡ ends dir s → (x .near ≡ v → ⊥) → (y : ℕ) → along dir isStep v y s ≡ false
+  pub step-no : (dir : Direction) {x : Ends} → x ≡ endsOf dir s → (x .near ≡ v → ⊥) → (y : ℕ) → oriented dir isStep v y s ≡ false
   unfolding isStep
   step-no From {x} e h y = and-false-left _ _ (ne-eqb (s .from) v (λ q. h (ap (λ (z : Ends). z .near) e ∙ q)))
   step-no To {x} e h y = and-false-right _ _ (ne-eqb (s .to) v (λ q. h (ap (λ (z : Ends). z .near) e ∙ q)))
@@ -140,7 +140,7 @@ others-are v y (m ∷ ms) = on-same y m
 -- ---- a record: ms is what `members_formed` returned, and the code went by the relation
 
 module _ (L : ℕ) (ws ms : List ℕ) (j : ℕ) (e : ms ≡ membersAt L ws j) (live : List ℕ) (rel : Relation) (v : ℕ) (old : List Bool) where
-  pub marked-along : (dir : Direction) (new : List Bool) → rel ≡ Along dir → MarkedBy live (someOf (along dir isStep v) (stepsOf ms)) old new
+  pub marked-along : (dir : Direction) (new : List Bool) → rel ≡ Along dir → MarkedBy live (someOf (oriented dir isStep v) (stepsOf ms)) old new
       → MarkedBy live (with (relates rel v) (hyperedgeAt L ws j)) old new
   unfolding someOf relates makesStep
   marked-along From new h b = rw h (rw e at b)

@@ -22,7 +22,7 @@ use Rattle.lookups.specs.declared.Direction.{Direction}
 use Rattle.lookups.specs.declared.Direction.the-variants.{From, To}
 use Rattle.lookups.specs.declared.Ends.{Ends}
 use Rattle.lookups.specs.Lookups.{hasEnd, places, placesIn}
-use Rattle.lookups.specs.State.{ends, stepAt}
+use Rattle.lookups.specs.State.{endsOf, stepAt}
 
 -- ---- a loop over i along the steps of ms
 
@@ -41,19 +41,19 @@ steps-end (x ∷ ms) (suc i) h = steps-end ms i (omega arith)
 
 -- the ends of the step at place i: the code went by the direction
 module _ (dir : Direction) (ms : List ℕ) (i : ℕ) where
-  pub ends-from : dir ≡ From → record { near = getD ms i 0; far = getD ms (i + 1) 0 } ≡ ends dir (stepAt ms i)
+  pub ends-from : dir ≡ From → record { near = getD ms i 0; far = getD ms (i + 1) 0 } ≡ endsOf dir (stepAt ms i)
   ends-from e = rw e
 
-  pub ends-to : dir ≡ To → record { near = getD ms (i + 1) 0; far = getD ms i 0 } ≡ ends dir (stepAt ms i)
+  pub ends-to : dir ≡ To → record { near = getD ms (i + 1) 0; far = getD ms i 0 } ≡ endsOf dir (stepAt ms i)
   ends-to e = rw e
 
-has-end : (dir : Direction) (v : ℕ) (s : Step) → hasEnd dir v s ≡ eqb (ends dir s .near) v
+has-end : (dir : Direction) (v : ℕ) (s : Step) → hasEnd dir v s ≡ eqb (endsOf dir s .near) v
 unfolding hasEnd
 has-end From v s = refl
 has-end To v s = refl
 
 -- x is what `ends_at` found, and the code compared its near end with v
-module _ (dir : Direction) (v : ℕ) (s : Step) (x : Ends) (e : x ≡ ends dir s) where
+module _ (dir : Direction) (v : ℕ) (s : Step) (x : Ends) (e : x ≡ endsOf dir s) where
   pub end-here : x .near ≡ v → hasEnd dir v s ≡ true
   end-here h = has-end dir v s ∙ rw (← e) (eq-eqb (x .near) v h)
 

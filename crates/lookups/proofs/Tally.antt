@@ -26,8 +26,8 @@ use Rattle.lookups.specs.declared.Direction.the-variants.{From, To}
 use Rattle.lookups.specs.declared.Ends.{Ends}
 use Rattle.lookups.specs.declared.Listing.{Listing}
 use Rattle.lookups.specs.declared.Listing.the-variants.{Connecting}
-use Rattle.lookups.specs.Lookups.{along, places, placesIn, block, listing, connecting}
-use Rattle.lookups.specs.State.{ends, stepAt, blockLength, listingMost, listingAhead, nothing, tallying, Tallied}
+use Rattle.lookups.specs.Lookups.{oriented, places, placesIn, block, listing, connecting}
+use Rattle.lookups.specs.State.{endsOf, stepAt, blockLength, listingMost, listingAhead, nothing, tallying, Tallied}
 use Rattle.lookups.proofs.Places.{places-more, places-none, records-more, records-none}
 use Rattle.lookups.proofs.Marking.{step-yes, step-no}
 use Rattle.lookups.proofs.Laid.{block-most}
@@ -35,9 +35,9 @@ use Rattle.lookups.proofs.Laid.{block-most}
 -- ---- what a listing has left: of record j's list from place i on, and then of the records behind
 
 unfoldable pub passing : Direction → ℕ → ℕ → List ℕ → ℕ → (ℕ → List ℕ) → ℕ → List ℕ
-passing dir v e ms i rest y = replicate (places (along dir isStep v y) (drop i ms)) e ++ rest y
+passing dir v e ms i rest y = replicate (places (oriented dir isStep v y) (drop i ms)) e ++ rest y
 
-block-along : (dir : Direction) (v y : ℕ) (e : Hyperedge) → block (along dir Connecting v y) e ≡ replicate (placesIn (along dir isStep v y) e) (e .number)
+block-along : (dir : Direction) (v y : ℕ) (e : Hyperedge) → block (oriented dir Connecting v y) e ≡ replicate (placesIn (oriented dir isStep v y) e) (e .number)
 unfolding block
 block-along From v y e = refl
 block-along To v y e = refl
@@ -47,35 +47,35 @@ pub passing-first : (L : ℕ) (ws : List ℕ) (j v : ℕ) (dir : Direction) (ms 
     → e ≡ hyperedgeAt L ws j .number → (y : ℕ) → listingAhead dir (read L ws) v j y ≡ passing dir v e ms 0 (listingAhead dir (read L ws) v (j + 1)) y
 unfolding listingAhead passing flat placesIn
 passing-first L ws j v dir ms e h q s y =
-    ap (flat (block (along dir Connecting v y))) (records-more L ws {j = j} refl h)
-    ∙ ap (λ (xs : List ℕ). xs ++ flat (block (along dir Connecting v y)) (drop (j + 1) (readHyperedges L ws))) (block-along dir v y (hyperedgeAt L ws j))
+    ap (flat (block (oriented dir Connecting v y))) (records-more L ws {j = j} refl h)
+    ∙ ap (λ (xs : List ℕ). xs ++ flat (block (oriented dir Connecting v y)) (drop (j + 1) (readHyperedges L ws))) (block-along dir v y (hyperedgeAt L ws j))
     ∙ rw (q, s)
 
 module _ (dir : Direction) (v e : ℕ) (ms : List ℕ) (i : ℕ) (rest : ℕ → List ℕ) where
   -- x is the ends of the step at place i, and the code compared the near one with v
-  pub passing-yes : (x : Ends) → i + 1 < length ms → x ≡ ends dir (stepAt ms i) → x .near ≡ v
+  pub passing-yes : (x : Ends) → i + 1 < length ms → x ≡ endsOf dir (stepAt ms i) → x .near ≡ v
       → (y : ℕ) → passing dir v e ms i rest y ≡ cond (eqb y (x .far)) (e ∷ passing dir v e ms (i + 1) rest y) (passing dir v e ms (i + 1) rest y)
   unfolding passing
   passing-yes x h a b y = on (eqb y (x .far))
       (λ q. rw (q, one-more true (sym (step-yes v (stepAt ms i) dir a b y) ∙ q)))
       (λ q. rw (q, one-more false (sym (step-yes v (stepAt ms i) dir a b y) ∙ q)))
     where
-      one-more : (b : Bool) → along dir isStep v y (stepAt ms i) ≡ b
-          → places (along dir isStep v y) (drop i ms) ≡ cond b (suc (places (along dir isStep v y) (drop (i + 1) ms))) (places (along dir isStep v y) (drop (i + 1) ms))
-      one-more true q = omega (arith, places-more (along dir isStep v y) ms i true h q)
-      one-more false q = omega (arith, places-more (along dir isStep v y) ms i false h q)
+      one-more : (b : Bool) → oriented dir isStep v y (stepAt ms i) ≡ b
+          → places (oriented dir isStep v y) (drop i ms) ≡ cond b (suc (places (oriented dir isStep v y) (drop (i + 1) ms))) (places (oriented dir isStep v y) (drop (i + 1) ms))
+      one-more true q = omega (arith, places-more (oriented dir isStep v y) ms i true h q)
+      one-more false q = omega (arith, places-more (oriented dir isStep v y) ms i false h q)
 
-  pub passing-no : (x : Ends) → i + 1 < length ms → x ≡ ends dir (stepAt ms i) → (x .near ≡ v → ⊥)
+  pub passing-no : (x : Ends) → i + 1 < length ms → x ≡ endsOf dir (stepAt ms i) → (x .near ≡ v → ⊥)
       → (y : ℕ) → passing dir v e ms i rest y ≡ passing dir v e ms (i + 1) rest y
   unfolding passing
   passing-no x h a b y =
-      let q : places (along dir isStep v y) (drop i ms) ≡ places (along dir isStep v y) (drop (i + 1) ms) =
-      omega (arith, places-more (along dir isStep v y) ms i false h (step-no v (stepAt ms i) dir a b y)) in
+      let q : places (oriented dir isStep v y) (drop i ms) ≡ places (oriented dir isStep v y) (drop (i + 1) ms) =
+      omega (arith, places-more (oriented dir isStep v y) ms i false h (step-no v (stepAt ms i) dir a b y)) in
       rw q
 
   pub passing-end : length ms ≤ i + 1 → (y : ℕ) → passing dir v e ms i rest y ≡ rest y
   unfolding passing
-  passing-end h y = rw (places-none (along dir isStep v y) ms i h)
+  passing-end h y = rw (places-none (oriented dir isStep v y) ms i h)
 
 pub ahead-first : (dir : Direction) (t : Table) (v y : ℕ) → connecting dir t v y ≡ listingAhead dir t v 0 y
 unfolding listingAhead connecting listing
@@ -83,7 +83,7 @@ ahead-first dir t v y = refl
 
 pub ahead-end : (L : ℕ) (ws : List ℕ) (v j : ℕ) (dir : Direction) → hyperedgeCount ws ≤ j → (y : ℕ) → listingAhead dir (read L ws) v j y ≡ nothing y
 unfolding listingAhead flat
-ahead-end L ws v j dir h y = ap (flat (block (along dir Connecting v y))) (records-none L ws {j = j} refl h)
+ahead-end L ws v j dir h y = ap (flat (block (oriented dir Connecting v y))) (records-none L ws {j = j} refl h)
 
 -- ---- how long a list can be
 
@@ -95,7 +95,7 @@ blocks-most L ws q f (suc j) h = omega (arith, flat-more (block q) (hyperedgeAt 
 pub connecting-most : (ws : List ℕ) (dir : Direction) (v y : ℕ) → Formed limit ws → length (connecting dir (read limit ws) v y) ≤ listingMost
 unfolding connecting listing
 connecting-most ws dir v y f =
-    omega (arith, blocks-most limit ws (along dir Connecting v y) f (hyperedgeCount ws) (omega arith), mul-le-mul-right (suc limit) (f .shape .hyperedges-le))
+    omega (arith, blocks-most limit ws (oriented dir Connecting v y) f (hyperedgeCount ws) (omega arith), mul-le-mul-right (suc limit) (f .shape .hyperedges-le))
 
 -- ---- a search for x found p, and the record found counts one more
 

@@ -18,9 +18,9 @@ use Rattle.lookups.specs.declared.Listing.the-variants.{Connecting, Weig
 -- ---- steps, seen from v
 
 -- what f makes of the step from v to y, or of the step from y to v
-abbrev pub along : {A : Type 0} → Direction → (ℕ → ℕ → A) → ℕ → ℕ → A
-along From f v y = f v y
-along To f v y = f y v
+abbrev pub oriented : {A : Type 0} → Direction → (ℕ → ℕ → A) → ℕ → ℕ → A
+oriented From f v y = f v y
+oriented To f v y = f y v
 
 -- the step leads from v, or it leads to v
 unfoldable pub hasEnd : Direction → ℕ → Step → Bool
@@ -35,7 +35,7 @@ coMember v y e = lists v e and lists y e and not (eqb y v)
 
 -- y stands right after v or right before v, or with v in the list
 unfoldable pub relates : Relation → ℕ → ℕ → Hyperedge → Bool
-relates (Along dir) v y e = along dir makesStep v y e
+relates (Along dir) v y e = oriented dir makesStep v y e
 relates Around v y e = coMember v y e
 
 -- some hyperedge relates y to v
@@ -99,7 +99,7 @@ listing q t = flat (block q) (t .hyperedges)
 
 -- the hyperedges that step from v to y, or from y to v, once for each place
 unfoldable pub connecting : Direction → Table → ℕ → ℕ → List ℕ
-connecting dir t v y = listing (along dir Connecting v y) t
+connecting dir t v y = listing (oriented dir Connecting v y) t
 
 -- vertex, count, hyperedges
 unfoldable pub adjacentEntry : Direction → Table → ℕ → ℕ → List ℕ

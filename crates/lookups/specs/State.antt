@@ -16,7 +16,7 @@ use Rattle.lookups.specs.declared.Direction.{Direction}
 use Rattle.lookups.specs.declared.Direction.the-variants.{From, To}
 use Rattle.lookups.specs.declared.Ends.{Ends}
 use Rattle.lookups.specs.declared.Listing.the-variants.{Connecting}
-use Rattle.lookups.specs.Lookups.{along, block, weighs, listing}
+use Rattle.lookups.specs.Lookups.{oriented, block, weighs, listing}
 use Rattle.layout.specs.Steps.{Step}
 use Rattle.lookups.specs.declared.Listing.{Listing}
 
@@ -64,7 +64,7 @@ listingMost = hyperedgeLimit * suc limit
 
 -- what the hyperedges from record j on list of the steps v to y, or y to v
 unfoldable pub listingAhead : Direction → Table → ℕ → ℕ → ℕ → List ℕ
-listingAhead dir t v j y = flat (block (along dir Connecting v y)) (drop j (t .hyperedges))
+listingAhead dir t v j y = flat (block (oriented dir Connecting v y)) (drop j (t .hyperedges))
 
 -- nothing is left
 abbrev pub nothing : ℕ → List ℕ
@@ -136,9 +136,9 @@ pub record Filling (live : List ℕ) (whole left : ℕ → List ℕ) (nexts out 
       → getD out p 0 ≡ getD (fullWords whole (getD live k 0)) (p - offset live whole k) 0
 
 -- near is where the step starts and far where it arrives, or the other way round
-abbrev pub ends : Direction → Step → Ends
-ends From s = record { near = s .from; far = s .to }
-ends To s = record { near = s .to; far = s .from }
+abbrev pub endsOf : Direction → Step → Ends
+endsOf From s = record { near = s .from; far = s .to }
+endsOf To s = record { near = s .to; far = s .from }
 
 -- the step at place i of a list
 abbrev pub stepAt : List ℕ → ℕ → Step

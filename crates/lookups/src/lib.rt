@@ -3,7 +3,7 @@ ghost use mathlib.Core.Path.{_≡_};
 ghost use Prim.Native.Nat.{_+_, _<_};
 ghost use lib.ListN.{length};
 ghost use Rattle.lists.specs.Lists.{memb};
-ghost use Rattle.lookups.specs.State.{ends, stepAt};
+ghost use Rattle.lookups.specs.State.{endsOf, stepAt};
 
 // A direction of steps, seen from a vertex v. From: the steps that lead from v, to a vertex right after it in a list. To: the
 // steps that lead to v, from a vertex right before it.
@@ -34,7 +34,7 @@ pub struct Ends {
 // The ends of the step at place i.
 pub fn ends_at(ms: &[u32], i: usize, dir: Direction) -> Ends
     requires { ⌜ i + 1 < length (now ms) ⌝ }
-    ensures { λ r. ⌜ r ≡ ends dir (stepAt (now (ms .entry)) i) ⌝ }
+    ensures { λ r. ⌜ r ≡ endsOf dir (stepAt (now (ms .entry)) i) ⌝ }
 {
     let from = ms[i];
     let to = ms[i + 1];

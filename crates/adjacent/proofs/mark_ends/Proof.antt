@@ -8,7 +8,7 @@ use lib.ListN.{length, drop}
 use Rattle.layout.specs.Content.{liveVertices}
 use Rattle.layout.specs.Layout.{limit, read}
 use Rattle.layout.specs.Steps.{stepsOf, isStep}
-use Rattle.lookups.specs.Lookups.{along}
+use Rattle.lookups.specs.Lookups.{oriented}
 use Rattle.lookups.specs.State.{stepAt}
 use Rattle.lookups.proofs.Places.{steps-more, steps-end}
 use Rattle.lookups.proofs.Marking.{mark-one, Marking, marking-none, marking-more, marking-skip, marking-end, marked-as, step-yes, step-no}
@@ -17,7 +17,7 @@ use Rattle.adjacent.proofs.mark_ends.Statement.{statement}
 use Rattle.adjacent.proofs.mark_ends.Tie as tie
 
 abbrev Inv-loop : tie.InvT-loop
-Inv-loop t list v dir marks₀ i₀ marks i = (i ≤ length list) × Marking (liveVertices (read limit t)) (along dir isStep v) (stepsOf list) (stepsOf (drop i list)) marks₀ marks
+Inv-loop t list v dir marks₀ i₀ marks i = (i ≤ length list) × Marking (liveVertices (read limit t)) (oriented dir isStep v) (stepsOf list) (stepsOf (drop i list)) marks₀ marks
 
 abbrev μ-loop : tie.MeasureT-loop
 μ-loop t list v dir marks₀ i₀ marks i = length list - i
