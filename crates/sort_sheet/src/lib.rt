@@ -26,7 +26,7 @@ fn sort_through(t: &mut [u32], text: &[u8], order: &mut [u32]) -> Answer
 }
 
 // Reads the text and sorts what stands in it.
-pub fn sort_text(text: &[u8], order: &mut [u32]) -> Answer
+fn sort_text(text: &[u8], order: &mut [u32]) -> Answer
     ensures { λ r. ⌜ result r (now (order .exit)) ≡ sheetResult (now (text .entry)) (now (order .entry)) ⌝ }
 {
     let mut t = [0u32; layout::SIZE];

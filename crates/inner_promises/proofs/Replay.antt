@@ -3,7 +3,7 @@ use mathlib.Core.Path.{_≡_, refl, sym, ap, _∙_}
 use mathlib.Core.List.{List, []}
 use Prim.Native.Nat.{ℕ}
 use denote.Ref.{now}
-use Rattle.promises.specs.Agreement.{Agrees}
+use Rattle.agreement.specs.Agreement.{Agrees}
 use Rattle.replay.specs.Judging.{AfterCount, afterCount}
 use Rattle.replay.specs.Replayed.{LeftBy}
 use Rattle.replay_reading.proofs.byte.Kinds as byte

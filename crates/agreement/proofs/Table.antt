@@ -1,12 +1,9 @@
--- The same for the public functions that other crates call: any two results that keep the promise on the same input agree. Where a
--- function fills an array that its caller lends for the search, what is said is what stands in the places that it speaks of. Assumes nothing.
+-- What is read and found in a table: any two results that keep the promise on the same input agree; of a part of the table, in its words. Assumes
+-- nothing.
 use mathlib.Core.Path.{refl, sym, _∙_}
 use mathlib.Core.List.{[]}
 use denote.Ref.{now}
-use Rattle.layout.proofs.Answers.{agree}
-use Rattle.order.proofs.State.{sorted-agree}
-use Rattle.steps.proofs.Holds.{holds-one}
-use Rattle.promises.specs.Agreement.{Agrees}
+use Rattle.agreement.specs.Agreement.{Agrees, AgreesIn}
 use Rattle.layout.proofs.next_vertex.Kinds as next-vertex
 use Rattle.layout.proofs.next_vertex.Reads as next-vertex-reads
 use Rattle.layout.proofs.next_hyperedge.Kinds as next-hyperedge
@@ -25,6 +22,12 @@ use Rattle.layout.proofs.hyperedge_weight.Kinds as hyperedge-weight
 use Rattle.layout.proofs.hyperedge_weight.Reads as hyperedge-weight-reads
 use Rattle.layout.proofs.member_count.Kinds as member-count
 use Rattle.layout.proofs.member_count.Reads as member-count-reads
+use Rattle.layout.proofs.members.Kinds as members
+use Rattle.layout.proofs.members.Reads as members-reads
+use Rattle.layout.proofs.members_formed.Kinds as members-formed
+use Rattle.layout.proofs.members_formed.Reads as members-formed-reads
+use Rattle.layout.proofs.wide.Kinds as wide
+use Rattle.layout.proofs.wide.Reads as wide-reads
 use Rattle.find.proofs.find_number.Kinds as find-number
 use Rattle.find.proofs.find_number.Reads as find-number-reads
 use Rattle.find.proofs.find_vertex.Kinds as find-vertex
@@ -35,32 +38,8 @@ use Rattle.find.proofs.first_missing_vertex.Kinds as first-missing-vertex
 use Rattle.find.proofs.first_missing_vertex.Reads as first-missing-vertex-reads
 use Rattle.find.proofs.first_missing_hyperedge.Kinds as first-missing-hyperedge
 use Rattle.find.proofs.first_missing_hyperedge.Reads as first-missing-hyperedge-reads
-use Rattle.marks.proofs.count_marked.Kinds as count-marked
-use Rattle.marks.proofs.count_marked.Reads as count-marked-reads
-use Rattle.frames.proofs.digit.Kinds as digit
-use Rattle.frames.proofs.digit.Reads as digit-reads
-use Rattle.marks.proofs.list_marked.Kinds as list-marked
-use Rattle.marks.proofs.list_marked.Reads as list-marked-reads
-use Rattle.steps.proofs.list_records.Kinds as list-records
-use Rattle.steps.proofs.list_records.Reads as list-records-reads
-use Rattle.components.proofs.list_classes.Kinds as list-classes
-use Rattle.components.proofs.list_classes.Reads as list-classes-reads
-use Rattle.closure.proofs.list_pairs.Kinds as list-pairs
-use Rattle.closure.proofs.list_pairs.Reads as list-pairs-reads
-use Rattle.cut_vertices.proofs.cut_vertices_formed.Kinds as cut-vertices-formed
-use Rattle.cut_vertices.proofs.cut_vertices_formed.Reads as cut-vertices-formed-reads
-use Rattle.marks.proofs.write_marked.Kinds as write-marked
-use Rattle.marks.proofs.write_marked.Reads as write-marked-reads
-use Rattle.order.proofs.sort.Kinds as sort
-use Rattle.order.proofs.sort.Reads as sort-reads
-use Rattle.steps.proofs.step_matrix.Kinds as step-matrix
-use Rattle.steps.proofs.step_matrix.Reads as step-matrix-reads
-use Rattle.steps.proofs.turned_matrix.Kinds as turned-matrix
-use Rattle.steps.proofs.turned_matrix.Reads as turned-matrix-reads
-use Rattle.steps.proofs.link_matrix.Kinds as link-matrix
-use Rattle.steps.proofs.link_matrix.Reads as link-matrix-reads
 
--- ---- what is read and found in a table
+-- ---- words and records
 
 pub next-vertex-agrees : Agrees 1 next-vertex.ps next-vertex.r next-vertex-reads.Post (λ _ _. [])
 next-vertex-agrees κs args a b x y p q = (p ∙ sym q, refl)
@@ -89,6 +68,17 @@ hyperedge-weight-agrees κs args a b x y p q = (p ∙ sym q, refl)
 pub member-count-agrees : Agrees 1 member-count.ps member-count.r member-count-reads.Post (λ _ _. [])
 member-count-agrees κs args a b x y p q = (p ∙ sym q, refl)
 
+pub members-agrees : AgreesIn 1 members.ps members.r members-reads.Pre members-reads.Post (λ κs args a x. now a)
+members-agrees κs args a b x y pre p q = p ∙ sym q
+
+pub members-formed-agrees : AgreesIn 1 members-formed.ps members-formed.r members-formed-reads.Pre members-formed-reads.Post (λ κs args a x. now a)
+members-formed-agrees κs args a b x y pre p q = p ∙ sym q
+
+pub wide-agrees : Agrees 0 wide.ps wide.r wide-reads.Post (λ _ _. [])
+wide-agrees κs args a b x y p q = (p ∙ sym q, refl)
+
+-- ---- where a number stands, and which is missing
+
 pub find-number-agrees : Agrees 1 find-number.ps find-number.r find-number-reads.Post (λ _ _. [])
 find-number-agrees κs args a b x y p q = (p ∙ sym q, refl)
 
@@ -103,43 +93,3 @@ first-missing-vertex-agrees κs args a b x y p q = (p ∙ sym q, refl)
 
 pub first-missing-hyperedge-agrees : Agrees 2 first-missing-hyperedge.ps first-missing-hyperedge.r first-missing-hyperedge-reads.Post (λ _ _. [])
 first-missing-hyperedge-agrees κs args a b x y p q = (p ∙ sym q, refl)
-
-pub count-marked-agrees : Agrees 1 count-marked.ps count-marked.r count-marked-reads.Post (λ _ _. [])
-count-marked-agrees κs args a b x y p q = (p ∙ sym q, refl)
-
-pub digit-agrees : Agrees 0 digit.ps digit.r digit-reads.Post (λ _ _. [])
-digit-agrees κs args a b x y p q = (p ∙ sym q, refl)
-
--- ---- listings
-
-pub list-marked-agrees : Agrees 3 list-marked.ps list-marked.r list-marked-reads.Post (λ _ x. now (x .1 .1 .0))
-list-marked-agrees κs args a b x y p q = agree _ p q
-
-pub list-records-agrees : Agrees 3 list-records.ps list-records.r list-records-reads.Post (λ _ x. now (x .1 .1 .1 .0))
-list-records-agrees κs args a b x y p q = agree _ p q
-
-pub list-classes-agrees : Agrees 3 list-classes.ps list-classes.r list-classes-reads.Post (λ _ x. now (x .1 .1 .1 .1 .0))
-list-classes-agrees κs args a b x y p q = agree _ p q
-
-pub list-pairs-agrees : Agrees 3 list-pairs.ps list-pairs.r list-pairs-reads.Post (λ _ x. now (x .1 .1 .1 .0))
-list-pairs-agrees κs args a b x y p q = agree _ p q
-
-pub cut-vertices-formed-agrees : Agrees 2 cut-vertices-formed.ps cut-vertices-formed.r cut-vertices-formed-reads.Post (λ _ x. now (x .1 .0))
-cut-vertices-formed-agrees κs args a b x y p q = agree _ p q
-
-pub write-marked-agrees : Agrees 3 write-marked.ps write-marked.r write-marked-reads.Post (λ _ x. now (x .1 .1 .1 .0))
-write-marked-agrees κs args a b x y p q = (refl, p ∙ sym q)
-
--- ---- the sort, and the matrices
-
-pub sort-agrees : Agrees 2 sort.ps sort.r sort-reads.Post (λ _ x. now (x .1 .1 .0))
-sort-agrees κs args a b x y p q = sorted-agree p q
-
-pub step-matrix-agrees : Agrees 2 step-matrix.ps step-matrix.r step-matrix-reads.Post (λ _ x. now (x .1 .0))
-step-matrix-agrees κs args a b x y p q = (refl, holds-one p q)
-
-pub turned-matrix-agrees : Agrees 2 turned-matrix.ps turned-matrix.r turned-matrix-reads.Post (λ _ x. now (x .1 .0))
-turned-matrix-agrees κs args a b x y p q = (refl, holds-one p q)
-
-pub link-matrix-agrees : Agrees 2 link-matrix.ps link-matrix.r link-matrix-reads.Post (λ _ x. now (x .1 .0))
-link-matrix-agrees κs args a b x y p q = (refl, holds-one p q)
