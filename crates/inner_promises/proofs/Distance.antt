@@ -23,7 +23,7 @@ use Rattle.distance.specs.Descent.{Pair}
 use Rattle.distance.proofs.Best.{best-one}
 use Rattle.paths.specs.Choices.{Weights, Values}
 use Rattle.agreement.specs.Agreement.{Agrees, AgreesIn}
-use Rattle.inner_promises.specs.Given.{firsts, rowWords, near, blockKeys, pickedKey, keyOf, listedIn, listedAll, walkOf}
+use Rattle.inner_promises.specs.Given.{firsts, rowFirsts, near, blockKeys, pickedKey, keyOf, listedIn, listedAll, walkOf}
 use Rattle.inner_promises.proofs.Parts.{two, three, matrix-one}
 use Rattle.distance.proofs.blocks.lesser.Kinds as lesser
 use Rattle.distance.proofs.blocks.lesser.Reads as lesser-reads
@@ -207,7 +207,7 @@ counts-one {counts = counts} {sums} s p q =
 listed-is : {c lists counts : List ℕ} → Listed c lists counts → (u v : ℕ) → u < 256 → v < 256 → listedIn lists counts u v ≡ stepIn c u v
 listed-is {c} {lists} {counts} p u v hu hv =
     let n : ℕ = wordAt counts u in
-    let row : List ℕ = rowWords n u lists in
+    let row : List ℕ = rowFirsts n u lists in
     let long : length row ≡ n = length-tab _ n in
     test-ext _ _
     (λ e. let w = memb-at v row e in

@@ -21,7 +21,7 @@ use Rattle.graph.proofs.Bfs.{bfs-sound, bfs-complete}
 use Rattle.components.specs.Parts.{Partition}
 use Rattle.components.specs.Classes.{rootsOf}
 use Rattle.agreement.specs.Agreement.{Agrees, AgreesIn}
-use Rattle.inner_promises.specs.Given.{firsts, rowWords}
+use Rattle.inner_promises.specs.Given.{firsts, rowFirsts}
 use Rattle.inner_promises.proofs.Parts.{matrix-one}
 use Rattle.steps.proofs.step_matrix.Kinds as step-matrix
 use Rattle.steps.proofs.step_matrix.Reads as step-matrix-reads
@@ -151,5 +151,5 @@ pub part-strong-agrees : AgreesIn 3 part-strong.ps part-strong.r part-strong-rea
 part-strong-agrees κs args a b x y pre p q = partition-one _ (args .1 .1 .0) _ _ _ a b p q
 
 pub close-agrees : AgreesIn 2 close.ps close.r close-reads.Pre close-reads.Post
-    (λ κs args a x. tab (λ u. rowWords (args .1 .0) u (now (x .1 .1 .0))) (args .1 .0))
+    (λ κs args a x. tab (λ u. rowFirsts (args .1 .0) u (now (x .1 .1 .0))) (args .1 .0))
 close-agrees κs args a b x y pre p q = tab-ext _ _ (args .1 .0) (λ u hu. tab-ext _ _ (args .1 .0) (λ v hv. p .is u v hu hv ∙ sym (q .is u v hu hv)))

@@ -15,7 +15,7 @@ use Rattle.layout.specs.Layout.{limit, vertexCount, hyperedgeCount, membersAt, 
 use Rattle.layout.specs.Inner.{Formed, hyperedgeColumn}
 use Rattle.walk.specs.Passes.{Rows}
 use Rattle.agreement.specs.Agreement.{Agrees, AgreesIn}
-use Rattle.inner_promises.specs.Given.{rowWords, rowMarks}
+use Rattle.inner_promises.specs.Given.{rowFirsts, rowMarks}
 use Rattle.walk.proofs.xorshift.Kinds as xorshift
 use Rattle.walk.proofs.xorshift.Reads as xorshift-reads
 use Rattle.walk.proofs.sample.Kinds as sample
@@ -53,13 +53,13 @@ pub first-places-agrees : AgreesIn 2 first-places.ps first-places.r first-places
 first-places-agrees κs args a b x y pre p q = tab-ext _ _ _ (λ j l. tab-ext _ _ _ (λ i h. p .before j i l h ∙ sym (q .before j i l h)))
 
 -- each row is its list
-rows-are : {n : ℕ} {R : ℕ → List ℕ} {rows counts : List ℕ} → Rows n R rows counts → tab (λ i. rowWords (wordAt counts i) i rows) n ≡ tab R n
+rows-are : {n : ℕ} {R : ℕ → List ℕ} {rows counts : List ℕ} → Rows n R rows counts → tab (λ i. rowFirsts (wordAt counts i) i rows) n ≡ tab R n
 rows-are {n} {R} {rows} {counts} w =
     tab-ext _ _ n (λ i l.
-    ap (λ (k : ℕ). rowWords k i rows) (w .many i l) ∙ tab-ext _ _ (length (R i)) (λ q h. w .entry i q l h) ∙ tab-getD (R i) 0)
+    ap (λ (k : ℕ). rowFirsts k i rows) (w .many i l) ∙ tab-ext _ _ (length (R i)) (λ q h. w .entry i q l h) ∙ tab-getD (R i) 0)
 
 pub list-members-agrees : AgreesIn 4 list-members.ps list-members.r list-members-reads.Pre list-members-reads.Post
-    (λ κs args a x. tab (λ i. rowWords (wordAt (now (x .1 .1 .1 .0)) i) i (now (x .1 .1 .0))) (vertexCount (now (args .0))))
+    (λ κs args a x. tab (λ i. rowFirsts (wordAt (now (x .1 .1 .1 .0)) i) i (now (x .1 .1 .0))) (vertexCount (now (args .0))))
 list-members-agrees κs args a b x y pre p q = rows-are p ∙ sym (rows-are q)
 
 -- ---- a move, and the walk

@@ -21,8 +21,8 @@ abbrev pub firstMarks : ℕ → List Bool → List Bool
 firstMarks n ms = tab (isMarked ms) n
 
 -- the first n words of row i of a matrix
-abbrev pub rowWords : ℕ → ℕ → List ℕ → List ℕ
-rowWords n i m = tab (λ j. wordAt m (cell i j)) n
+abbrev pub rowFirsts : ℕ → ℕ → List ℕ → List ℕ
+rowFirsts n i m = tab (λ j. wordAt m (cell i j)) n
 
 -- the first n marks of row i
 abbrev pub rowMarks : ℕ → ℕ → List Bool → List Bool
@@ -56,7 +56,7 @@ keyOf m d v = cond (eqb (wordAt m v) 2) (suc (wordAt d v)) 0
 
 -- v stands in the list of u
 abbrev pub listedIn : List ℕ → List ℕ → ℕ → ℕ → Bool
-listedIn lists counts u v = memb v (rowWords (wordAt counts u) u lists)
+listedIn lists counts u v = memb v (rowFirsts (wordAt counts u) u lists)
 
 -- which numbers stand in each list
 abbrev pub listedAll : List ℕ → List ℕ → List (List Bool)
