@@ -9,14 +9,14 @@ use Rattle.lists.specs.Tests.{_and_}
 use Rattle.lists.specs.Lists.{any, flat, sumOver, counted}
 use Rattle.layout.specs.declared.Found.{Found}
 use Rattle.layout.specs.declared.Found.the-variants.{At, Nothing}
-use Rattle.layout.specs.Content.{Table, Hyperedge, lists}
+use Rattle.layout.specs.Content.{Table, Hyperedge}
 use Rattle.layout.specs.Layout.{vertexLimit, hyperedgeLimit, limit, vertexAt}
 use Rattle.marks.specs.Marks.{isMarked}
 use Rattle.lookups.specs.declared.Direction.{Direction}
 use Rattle.lookups.specs.declared.Direction.the-variants.{From, To}
 use Rattle.lookups.specs.declared.Ends.{Ends}
 use Rattle.lookups.specs.declared.Listing.the-variants.{Connecting}
-use Rattle.lookups.specs.Lookups.{oriented, block, weighs, listing}
+use Rattle.lookups.specs.Lookups.{oriented, block, weighs}
 use Rattle.layout.specs.Steps.{Step}
 use Rattle.lookups.specs.declared.Listing.{Listing}
 
