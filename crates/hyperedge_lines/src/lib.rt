@@ -12,29 +12,23 @@ ghost use Rattle.frames.specs.Reading.{nextHyperedgeOf, verticesDue, hyperedges
 ghost use Rattle.reader.specs.Lines.{Valued, Sealed};
 ghost use Rattle.reader.specs.Passes.{Live};
 ghost use Rattle.reader.specs.Hyperedges.{VerticesStored, HyperedgeRead, HyperedgesRead};
+use frames::HYPEREDGE_LENGTH;
+use frames::MEMBER_LENGTH;
 use put_read::is_live;
 use put_read::put_members;
 use put_read::put_word;
 use put_read::wide_word;
 use reader::COUNT_AT;
 use reader::HYPEREDGE_BYTES;
-use reader::HYPEREDGE_LENGTH;
 use reader::MEMBER_BYTES;
-use reader::MEMBER_LENGTH;
 use reader::NUMBER_AT;
 use reader::WEIGHT_AT;
+use reader::Walked;
 use reader::byte_at;
 use reader::number_at;
+use reader::walk_line;
 use sealed::is_frame;
 use sealed::number_fits;
-use vertex_lines::HEAD_LENGTH;
-use vertex_lines::VERTEX_LENGTH;
-
-// How many lines are good, and the place behind them.
-pub struct Walked {
-    pub lines: usize,
-    pub at: usize,
-}
 
 // Every vertex of the list is live.
 fn list_live(words: &[u32], list: &[u32]) -> bool
@@ -179,7 +173,7 @@ fn hyperedges_from(
             return Walked { lines: i, at };
         }
         low = number_at(values, text, at + NUMBER_AT) + 1;
-        at += HYPEREDGE_LENGTH + k * MEMBER_LENGTH;
+        at = walk_line(text, at, HYPEREDGE_LENGTH + k * MEMBER_LENGTH);
         to += layout::RECORD_SIZE;
         i += 1;
     }
@@ -187,14 +181,14 @@ fn hyperedges_from(
 }
 
 // The same, with the head's numbers from the words.
-pub fn read_hyperedges(words: &mut [u32], values: &[u16; 256], text: &[u8]) -> Walked
+pub fn read_hyperedges(words: &mut [u32], values: &[u16; 256], text: &[u8], place: usize) -> Walked
     requires { ⌜ Valued (now values) ⌝ }
     requires { ⌜ VerticesStored (now text) (now words) ⌝ }
+    requires { ⌜ place ≡ vertexPlace (verticesDue (now text)) ⌝ }
     ensures { λ r. ⌜ HyperedgesRead (now (text .entry)) (hyperedgesDue (now (text .entry))) (now (words .entry)) (now (words .exit)) (r .lines) (r .at) ⌝ }
     ensures { λ r. ⌜ (r .lines < hyperedgesDue (now (text .entry)) → hyperedgeGood (now (text .entry)) (r .lines) ≡ false) ⌝ }
 {
     let m = layout::hyperedge_count(words);
     let next = wide_word(layout::next_hyperedge(words));
-    let place = HEAD_LENGTH + layout::vertex_count(words) * VERTEX_LENGTH;
     hyperedges_from(words, values, text, place, m, next)
 }

@@ -4,7 +4,7 @@ ghost use lib.ListN.{length};
 ghost use Rattle.lists.specs.Inner.{blank};
 ghost use Rattle.layout.specs.Layout.{limit, size};
 ghost use Rattle.layout.specs.Answers.{result};
-ghost use Rattle.frames.specs.Reading.{readResult, verticesDue};
+ghost use Rattle.frames.specs.Reading.{readResult, verticesDue, vertexPlace};
 ghost use Rattle.reader.specs.Lines.{Valued};
 ghost use Rattle.reader.specs.Passes.{storedRead, answerOf, HeadStored, HeadMade, VerticesMade, TextRead};
 ghost use Rattle.reader.specs.Hyperedges.{VerticesStored};
@@ -60,15 +60,16 @@ pub fn read_frames(t: &mut [u32], text: &[u8]) -> Answer
     answer_of(line)
 }
 
-// The hyperedges and the end of the text, behind a good head and n good vertices.
-fn read_rest(words: &mut [u32], values: &[u16; 256], text: &[u8], n: usize) -> usize
+// The hyperedges and the end of the text, behind a good head and n good vertices, whose lines end at the place.
+fn read_rest(words: &mut [u32], values: &[u16; 256], text: &[u8], n: usize, place: usize) -> usize
     requires { ⌜ Valued (now values) ⌝ }
     requires { ⌜ VerticesStored (now text) (now words) ⌝ }
     requires { ⌜ VerticesMade (now text) (now words) × (n ≡ verticesDue (now text)) ⌝ }
+    requires { ⌜ place ≡ vertexPlace (verticesDue (now text)) ⌝ }
     ensures { λ r. ⌜ TextRead (now (text .entry)) (now (words .exit)) r ⌝ }
 {
     let m = layout::hyperedge_count(words);
-    let walked = read_hyperedges(words, values, text);
+    let walked = read_hyperedges(words, values, text, place);
     if walked.lines < m {
         return 2 + n + walked.lines;
     }
@@ -86,11 +87,11 @@ fn read_records(words: &mut [u32], values: &[u16; 256], text: &[u8]) -> usize
     ensures { λ r. ⌜ TextRead (now (text .entry)) (now (words .exit)) r ⌝ }
 {
     let n = layout::vertex_count(words);
-    let i = read_vertices(words, values, text);
-    if i < n {
-        return 2 + i;
+    let walked = read_vertices(words, values, text);
+    if walked.lines < n {
+        return 2 + walked.lines;
     }
-    read_rest(words, values, text, n)
+    read_rest(words, values, text, n, walked.at)
 }
 
 // The number of the faulty line, or 0; then the words are those of the text's content.

@@ -6,7 +6,7 @@ use Prim.Native.Nat.{ℕ, _+_, _*_, _-_, _%_, _≤_, _<_}
 use native.Mathlib.Omega.{arith}
 use lib.Dec.{eqb, leb}
 use lib.ListN.{length, getD}
-use borrow.Author.Tests.{leb-true, not-false}
+use borrow.Author.Tests.{leb-true, eqb-true, not-false}
 use Rattle.lists.specs.Tests.{_and_}
 use Rattle.lists.specs.Lists.{all, isBelow}
 use Rattle.lists.proofs.Cases.{on, and-left, and-right}
@@ -15,6 +15,7 @@ use Rattle.frames.specs.Reading.{numberAt}
 use Rattle.frames.specs.Bytes.{bytesAt}
 use Rattle.frames.proofs.Parse.{bytes-front, number-word}
 use Rattle.reader.specs.Lines.{frameSum, lineEnd, sealedAt, Sealed}
+use Rattle.reader.proofs.Ends.{end-here}
 
 module _ (text : List ℕ) (p k r : ℕ) (e : r ≡ lineEnd text p (k * 2 + 1)) where
   ends : r ≡ cond (leb (p + (k * 2 + 1)) (length text) and eqb (getD text (p + k * 2) 0) 10) (p + (k * 2 + 1)) p
@@ -58,6 +59,14 @@ pub sealed-by : (text : List ℕ) (p k : ℕ) (r : Bool) → r ≡ sealedAt text
 sealed-by text p k r e h = sealed-is text p k (sym e ∙ not-false r h)
 
 module _ (text : List ℕ) (p k : ℕ) (s : Sealed text p k) where
+  -- the line of a frame is walked: the place behind it is as far as the line is wide
+  pub sealed-walked : (width q : ℕ) → width ≡ k * 2 + 1 → q ≡ lineEnd text p width → q ≡ p + width
+  unfolding sealedAt
+  sealed-walked width q w e =
+      let last : p + (width - 1) ≡ p + k * 2 = omega arith in
+      let feed : getD text (p + k * 2) 0 ≡ 10 = eqb-true _ _ (and-left _ _ (and-right _ _ (s .is))) in
+      e ∙ sym (end-here text p width (omega (arith, s .room)) (omega (arith, s .room)) (ap (λ (n : ℕ). getD text n 0) last ∙ feed))
+
   -- each number that stands in a frame is a word
   pub number-word-at : (i x : ℕ) → i + 4 ≤ k → x ≡ numberAt text (p + i * 2) → x < 4294967296
   number-word-at i x h e =

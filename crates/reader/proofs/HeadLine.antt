@@ -11,16 +11,16 @@ use Rattle.lists.specs.Tests.{_and_}
 use Rattle.lists.specs.Lists.{all, isBelow, flat}
 use Rattle.lists.proofs.Cases.{on, clash, and-left, and-right, and-both}
 use Rattle.layout.specs.Layout.{limit, size, vertexLimit, hyperedgeLimit}
-use Rattle.frames.specs.Frames.{byteValues, numberBytes, shortBytes, headMark, headFrame, sealed, digit, byteDigits, digits, line}
+use Rattle.frames.specs.Frames.{byteValues, numberBytes, shortBytes, headMark, headFrame, sealed, digit, byteDigits, digits, line, headLength}
 use Rattle.frames.specs.Put.{Put}
 use Rattle.frames.specs.Reading.{nextVertexOf, nextHyperedgeOf, verticesDue, hyperedgesDue, standsAt, headGood}
 use Rattle.frames.specs.Bytes.{bytesAt}
 use Rattle.frames.proofs.Laws.{put-length, put-append, put-as}
 use Rattle.frames.proofs.Lines.{opening}
 use Rattle.frames.proofs.Parse.{bytes-append, bytes-front, short-bytes, number-bytes, digits-bytes, stands-eq, stands-by, number-low, short-low}
-use Rattle.reader.specs.Lines.{sealedAt, Sealed, countsFit}
+use Rattle.reader.specs.Lines.{lineEnd, sealedAt, Sealed, countsFit}
 use Rattle.reader.specs.Passes.{HeadStored, headWords}
-use Rattle.reader.proofs.Frame.{sealed-is, number-word-at}
+use Rattle.reader.proofs.Frame.{sealed-is, sealed-walked, number-word-at}
 use Rattle.reader.proofs.Records.{frame-sealed, frame-stands}
 use Rattle.reader.proofs.Puts.{put-in}
 
@@ -99,8 +99,11 @@ module _ (text : List ℕ) where
   unfolding headGood frame
   head-framed r e n = sealed-is text 0 16 (head-parts (and-left _ _ (sym e ∙ not-false r n)) .0)
 
-  pub head-room : headGood text ≡ true → 33 ≤ length text
+  pub head-room : headGood text ≡ true → headLength ≤ length text
   head-room g = omega (arith, head-framed true (sym g) refl .room)
+
+  pub head-walked : (p : ℕ) → headGood text ≡ true → p ≡ lineEnd text 0 headLength → p ≡ headLength
+  head-walked p g e = sealed-walked text 0 16 (head-framed true (sym g) refl) headLength p refl e
 
   pub vertices-few : headGood text ≡ true → verticesDue text ≤ vertexLimit
   unfolding headGood

@@ -105,7 +105,7 @@ module _ (text : List ℕ) (p : ℕ) where
 
 -- ---- which lines fit, from what the code found
 
-pub fits-seal : (text : List ℕ) (p k : ℕ) (r : Bool) → r ≡ sealedAt text p (11 + k * 4) → not r ≡ false → k ≡ countIn text p → (k ≡ 0 → ⊥) → k ≤ 32
+pub fits-seal : (text : List ℕ) (p k : ℕ) (r : Bool) → r ≡ sealedAt text p (11 + k * 4) → not r ≡ false → k ≡ countIn text p → (k ≡ 0 → ⊥) → k ≤ limit
     → Sealed text p (11 + k * 4) × ((k ≡ countIn text p) × ((0 < k) × (k ≤ limit)))
 fits-seal text p k r q n e z l = (sealed-is text p (11 + k * 4) (sym q ∙ not-false r n), (e, (omega arith, l)))
 
@@ -151,7 +151,7 @@ module _ (text : List ℕ) (p low high : ℕ) (live : List ℕ) where
     pub fits-empty : k ≡ 0 → false ≡ hyperedgeFits text p low high live
     fits-empty z = unless (λ f. omega (arith, fits-counted f .0))
 
-    pub fits-many : 32 < k → false ≡ hyperedgeFits text p low high live
+    pub fits-many : limit < k → false ≡ hyperedgeFits text p low high live
     fits-many m = unless (λ f. omega (arith, fits-counted f .1))
 
     pub fits-unsealed : (r : Bool) → p ≤ length text → r ≡ sealedAt text p (11 + k * 4) → not r ≡ true → false ≡ hyperedgeFits text p low high live

@@ -15,13 +15,15 @@ use Rattle.lists.proofs.Flat.{flat-snoc}
 use Rattle.layout.specs.Content.{isLive, liveVertices}
 use Rattle.layout.specs.Layout.{limit, hyperedgeLimit, recordSize, hyperedgesAt, vertexWord, vertexCount, hyperedgeCount, nextHyperedgeIn, hyperedgeWords}
 use Rattle.layout.specs.Inner.{vertexColumn}
+use Rattle.frames.specs.Frames.{hyperedgeLength}
 use Rattle.frames.specs.Put.{Put}
 use Rattle.frames.specs.Reading.{nextHyperedgeOf, verticesDue, hyperedgesDue, vertexPlace, byteAt, numberIn, countIn, memberIn, hyperedgePlace, hyperedgeFrom, hyperedgeIn, hyperedgeNumberIn, hyperedgeGood, contentOf}
 use Rattle.frames.proofs.Laws.{put-length, put-append, put-as}
 use Rattle.frames.proofs.Lines.{put-none}
-use Rattle.reader.specs.Lines.{Sealed, lowest, numberFits}
+use Rattle.reader.specs.Lines.{lineEnd, Sealed, lowest, numberFits}
 use Rattle.reader.specs.Passes.{Live}
 use Rattle.reader.specs.Hyperedges.{hyperedgeFits, VerticesStored, HyperedgeRead, HyperedgesRead}
+use Rattle.reader.proofs.Frame.{sealed-walked}
 use Rattle.reader.proofs.Numbers.{number-good, lowest-next}
 use Rattle.reader.proofs.HeadLine.{hyperedges-few, hyperedges-given}
 use Rattle.reader.proofs.HyperedgeLine.{fits-framed, fits-counted, fits-rest}
@@ -125,7 +127,7 @@ pub record HyperedgesSo (text before after : List ℕ) (low at to i : ℕ) : Typ
   pub live : Live after
   pub same : vertexColumn after ≡ liveVertices (contentOf text)
 
-pub hyperedges-none : (text ws : List ℕ) (p : ℕ) → VerticesStored text ws → p ≡ vertexPlace (verticesDue text) → HyperedgesSo text ws ws 0 p 516 0
+pub hyperedges-none : (text ws : List ℕ) (p : ℕ) → VerticesStored text ws → p ≡ vertexPlace (verticesDue text) → HyperedgesSo text ws ws 0 p hyperedgesAt 0
 unfolding every lowest hyperedgePlace tab flat
 hyperedges-none text ws p v e = record {
   some = omega arith;
@@ -134,7 +136,7 @@ hyperedges-none text ws p v e = record {
   place = e;
   within = omega (arith, v .within);
   word = refl;
-  put = put-none 516 ws (omega (arith, v .live .sized));
+  put = put-none hyperedgesAt ws (omega (arith, v .live .sized));
   live = v .live;
   same = v .same;
 }
@@ -148,7 +150,7 @@ hyperedges-end v = record {
   put = rw (← v .word) (v .put);
 }
 
-place-next : (text : List ℕ) (i p k : ℕ) → p ≡ hyperedgePlace text i → k ≡ countIn text p → p + (23 + k * 8) ≡ hyperedgePlace text (i + 1)
+place-next : (text : List ℕ) (i p k : ℕ) → p ≡ hyperedgePlace text i → k ≡ countIn text p → p + hyperedgeLength k ≡ hyperedgePlace text (i + 1)
 unfolding hyperedgePlace
 place-next text i p k e f = rw (add-one i, ← e, ← f)
 
@@ -169,16 +171,19 @@ module _ (text : List ℕ) (m next : ℕ) (em : m ≡ hyperedgesDue text) (ex : 
     pub hyperedges-bad : k ≡ 0 → hyperedgeGood text i ≡ false
     hyperedges-bad z = sym found ∙ read-none h z
 
-    pub hyperedges-more : {x : ℕ} → (k ≡ 0 → ⊥) → i < m → x ≡ numberIn text at → HyperedgesSo text before later (x + 1) (at + (23 + k * 8)) (to + 35) (i + 1)
+    pub hyperedges-more : {x behind : ℕ} → (k ≡ 0 → ⊥) → i < m → x ≡ numberIn text at → behind ≡ lineEnd text at (hyperedgeLength k)
+        → HyperedgesSo text before later (x + 1) behind (to + recordSize limit) (i + 1)
     unfolding every
-    hyperedges-more z l exn =
+    hyperedges-more {behind = behind} z l exn eb =
         let f = h .put (omega arith) in
+        let s = read-framed h z (v .within) in
+        let w : behind ≡ at + hyperedgeLength k = sealed-walked text at (11 + k * 4) s (hyperedgeLength k) behind (omega arith) eb in
         record {
           some = omega arith;
           good = rw (add-one i) (and-both _ _ (v .good) (sym found ∙ read-fits h z));
           least = lowest-next (hyperedgeNumberIn text) i _ (exn ∙ ap (numberIn text) (v .place));
-          place = place-next text i at k (v .place) (read-count h z);
-          within = omega (arith, read-framed h z (v .within) .room);
+          place = w ∙ place-next text i at k (v .place) (read-count h z);
+          within = omega (arith, s .room);
           word = omega (arith, v .word);
           put = put-as (omega arith)
               (sym (flat-snoc (hyperedgeWords limit) (tab (hyperedgeIn text) i) (hyperedgeIn text i))
@@ -191,15 +196,12 @@ module _ (text : List ℕ) (m next : ℕ) (em : m ≡ hyperedgesDue text) (ex : 
 pub hyperedges-over : (text : List ℕ) (m i : ℕ) → m ≡ hyperedgesDue text → m ≤ i → i < hyperedgesDue text → hyperedgeGood text i ≡ false
 hyperedges-over text m i e h l = absurd (omega arith)
 
-pub hyperedges-word : {text before after : List ℕ} {low at to i m : ℕ} → HyperedgesSo text before after low at to i → i < m → m ≤ 192 → to + 35 ≤ length after
+pub hyperedges-word : {text before after : List ℕ} {low at to i m : ℕ} → HyperedgesSo text before after low at to i → i < m → m ≤ hyperedgeLimit → to + recordSize limit ≤ length after
 hyperedges-word v l h = omega (arith, v .word, v .live .sized)
 
 -- ---- the head's numbers, as they stand in the words
 
 module _ {text ws : List ℕ} (v : VerticesStored text ws) where
-  pub stored-place : (n : ℕ) → n ≡ vertexCount ws → 33 + n * 21 ≡ vertexPlace (verticesDue text)
-  stored-place n e = ap vertexPlace (e ∙ v .head .vertices)
-
   module _ (m : ℕ) (e : m ≡ hyperedgeCount ws) where
     pub stored-due : m ≡ hyperedgesDue text
     stored-due = e ∙ v .head .hyperedges

@@ -15,7 +15,7 @@ use Rattle.layout.specs.declared.Answer.the-variants.{Done, NotWellFormed, BadT
 use Rattle.layout.specs.Layout.{limit, size, vertexCount, hyperedgeCount}
 use Rattle.layout.specs.Answers.{result}
 use Rattle.frames.specs.Put.{Put}
-use Rattle.frames.specs.Reading.{verticesDue, hyperedgesDue, hyperedgePlace, headGood, hyperedgeGood, goodLines, accepted, faultyLine, readResult}
+use Rattle.frames.specs.Reading.{verticesDue, hyperedgesDue, vertexPlace, hyperedgePlace, headGood, hyperedgeGood, goodLines, accepted, faultyLine, readResult}
 use Rattle.frames.proofs.Laws.{put-length}
 use Rattle.reader.specs.Hyperedges.{VerticesStored, HyperedgesRead}
 use Rattle.lists.specs.Inner.{blank}
@@ -43,7 +43,7 @@ module _ (text : List ℕ) where
 
 -- ---- the vertices
 
-module _ (text a b : List ℕ) (n i : ℕ) (h : HeadStored text a) (en : n ≡ vertexCount a) (v : VerticesRead text a b i) where
+module _ (text a b : List ℕ) (n i at : ℕ) (h : HeadStored text a) (en : n ≡ vertexCount a) (v : VerticesRead text a b i at) where
   due : n ≡ verticesDue text
   due = stored-due h n en
 
@@ -60,12 +60,15 @@ module _ (text a b : List ℕ) (n i : ℕ) (h : HeadStored text a) (en : n ≡ v
     whole : i ≡ verticesDue text
     whole = le-antisymm (v .some) (rw (← due) l)
 
+    pub text-vertices-place : at ≡ vertexPlace (verticesDue text)
+    text-vertices-place = v .reached ∙ ap vertexPlace whole
+
     pub text-vertices-stored : VerticesStored text b
     text-vertices-stored = record {
-      head = vertices-head text a b i h v;
-      live = vertices-live text a b i h v (rw (← due) l);
-      same = column-live text a b i h v (rw (← due) l);
-      within = rw (← whole) (v .within);
+      head = vertices-head text a b i at h v;
+      live = vertices-live text a b i at h v (rw (← due) l);
+      same = column-live text a b i at h v (rw (← due) l);
+      within = rw (← text-vertices-place) (v .within);
     }
 
     pub text-vertices-made : HeadMade text a → VerticesMade text b
@@ -140,11 +143,11 @@ pub copied-end : (ws t : List ℕ) (i : ℕ) → Copied ws t i → length ws ≤
 copied-end ws t i c l = ext-getD 0 t ws (c .sized) (λ j h. c .same j (omega (arith, c .sized)))
 
 module _ (text lent : List ℕ) where
-  pub answer-unsized : (length lent ≡ 7236 → ⊥) → result NotWellFormed lent ≡ readResult text lent
+  pub answer-unsized : (length lent ≡ size limit → ⊥) → result NotWellFormed lent ≡ readResult text lent
   unfolding readResult
   answer-unsized n = rw (ne-eqb (length lent) (size limit) n)
 
-  module _ {ws : List ℕ} {line : ℕ} (sz : length lent ≡ 7236) (r : TextRead text ws line) where
+  module _ {ws : List ℕ} {line : ℕ} (sz : length lent ≡ size limit) (r : TextRead text ws line) where
     refused : 0 < line → (accepted text ≡ false) × (line ≡ faultyLine text)
     unfolding verdict
     refused h =

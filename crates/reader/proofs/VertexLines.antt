@@ -17,15 +17,16 @@ use Rattle.lists.proofs.Flat.{flat-snoc, flat-at}
 use Rattle.layout.specs.Content.{vertexNumber, liveVertices, vertexOf, noVertex}
 use Rattle.layout.specs.Layout.{limit, size, vertexLimit, vertexSize, verticesAt, vertexWord, nextVertexIn, vertexCount, vertexWords}
 use Rattle.layout.specs.Inner.{vertexColumn}
-use Rattle.frames.specs.Frames.{vertexLine}
+use Rattle.frames.specs.Frames.{headLength, vertexLength, vertexLine}
 use Rattle.frames.specs.Put.{Put}
 use Rattle.frames.specs.Reading.{nextVertexOf, verticesDue, vertexPlace, numberIn, weightIn, vertexIn, vertexNumberIn, contentOf, climbsTo, numberGood, standsAt, vertexGood}
 use Rattle.frames.proofs.Laws.{put-length, put-append, put-as}
 use Rattle.frames.proofs.Lines.{put-none}
-use Rattle.reader.specs.Lines.{lowest, vertexFits}
+use Rattle.reader.specs.Lines.{lineEnd, lowest, vertexFits}
 use Rattle.reader.specs.Passes.{Live, HeadStored, VerticesRead}
 use Rattle.reader.proofs.Numbers.{number-good, lowest-first, lowest-next}
-use Rattle.reader.proofs.HeadLine.{head-room, vertices-few, vertices-given}
+use Rattle.reader.proofs.Frame.{sealed-walked}
+use Rattle.reader.proofs.HeadLine.{head-room, head-walked, vertices-few, vertices-given}
 use Rattle.reader.proofs.Records.{vertex-framed}
 use Rattle.reader.proofs.Puts.{put-before, put-in}
 
@@ -40,17 +41,17 @@ pub record VerticesSo (text before after : List ℕ) (low at to i : ℕ) : Type 
   pub sized : length after ≡ length before
   pub put : Put verticesAt (i * vertexSize) (flat vertexWords (tab (vertexIn text) i)) before after to
 
-pub vertices-none : (text ws : List ℕ) → length ws ≡ size limit → 33 ≤ length text → VerticesSo text ws ws 0 33 4 0
+pub vertices-none : (text ws : List ℕ) (p : ℕ) → length ws ≡ size limit → p ≡ headLength → p ≤ length text → VerticesSo text ws ws 0 p verticesAt 0
 unfolding every tab flat
-vertices-none text ws l h = record {
+vertices-none text ws p l e h = record {
   some = omega arith;
   good = refl;
   least = lowest-first (vertexNumberIn text);
-  place = refl;
+  place = e;
   within = h;
   word = refl;
   sized = refl;
-  put = put-none 4 ws (omega arith);
+  put = put-none verticesAt ws (omega arith);
 }
 
 module _ (text : List ℕ) (n next : ℕ) (en : n ≡ verticesDue text) (ex : next ≡ nextVertexOf text) (given : n ≤ next) where
@@ -64,35 +65,41 @@ module _ (text : List ℕ) (n next : ℕ) (en : n ≡ verticesDue text) (ex : ne
     found : r ≡ vertexGood text i
     found = e ∙ ap₂ (λ (p l : ℕ). vertexFits text p l (next - (n - i))) (v .place) (v .least) ∙ sym (vertex-judged i)
 
-    pub vertices-stop : not r ≡ true → VerticesRead text before after i
+    pub vertices-stop : not r ≡ true → VerticesRead text before after i at
     vertices-stop q = record {
       some = v .some;
       good = v .good;
-      within = rw (← v .place) (v .within);
+      reached = v .place;
+      within = v .within;
       put = rw (← v .word) (v .put);
       stopped = λ h. sym found ∙ not-true r q;
     }
 
-    pub vertices-more : {x to₂ : ℕ} {later : List ℕ} → not r ≡ false → i < n → x ≡ numberIn text at
-        → Put to 2 (vertexWords (vertexOf (numberIn text at) (weightIn text at))) after later to₂ → VerticesSo text before later (x + 1) (at + 21) to₂ (i + 1)
-    vertices-more q h exn f = record {
-      some = omega arith;
-      good = every-on (vertexGood text) n i r found (v .good) q;
-      least = lowest-next (vertexNumberIn text) i _ (exn ∙ ap (numberIn text) (v .place));
-      place = omega (arith, v .place);
-      within = omega (arith, vertex-framed text at low (next - (n - i)) r (v .within) e q .room);
-      word = omega (arith, f .reached, v .word);
-      sized = put-length f ∙ v .sized;
-      put = put-as (omega arith)
-          (sym (flat-snoc vertexWords (tab (vertexIn text) i) (vertexIn text i)) ∙ ap (flat vertexWords) (sym (tab-suc (vertexIn text) i) ∙ ap (tab (vertexIn text)) (sym (add-one i))))
-          (put-append (v .put) (rw (v .place) at f));
-    }
+    pub vertices-more : {x to₂ behind : ℕ} {later : List ℕ} → not r ≡ false → i < n → x ≡ numberIn text at
+        → Put to 2 (vertexWords (vertexOf (numberIn text at) (weightIn text at))) after later to₂ → behind ≡ lineEnd text at vertexLength
+        → VerticesSo text before later (x + 1) behind to₂ (i + 1)
+    vertices-more {behind = behind} q h exn f eb =
+        let s = vertex-framed text at low (next - (n - i)) r (v .within) e q in
+        let w : behind ≡ at + vertexLength = sealed-walked text at 10 s vertexLength behind refl eb in
+        record {
+          some = omega arith;
+          good = every-on (vertexGood text) n i r found (v .good) q;
+          least = lowest-next (vertexNumberIn text) i _ (exn ∙ ap (numberIn text) (v .place));
+          place = omega (arith, v .place);
+          within = omega (arith, s .room);
+          word = omega (arith, f .reached, v .word);
+          sized = put-length f ∙ v .sized;
+          put = put-as (omega arith)
+              (sym (flat-snoc vertexWords (tab (vertexIn text) i) (vertexIn text i)) ∙ ap (flat vertexWords) (sym (tab-suc (vertexIn text) i) ∙ ap (tab (vertexIn text)) (sym (add-one i))))
+              (put-append (v .put) (rw (v .place) at f));
+        }
 
-  pub vertices-end : {before after : List ℕ} {low at to i : ℕ} → VerticesSo text before after low at to i → n ≤ i → VerticesRead text before after i
+  pub vertices-end : {before after : List ℕ} {low at to i : ℕ} → VerticesSo text before after low at to i → n ≤ i → VerticesRead text before after i at
   vertices-end v h = record {
     some = v .some;
     good = v .good;
-    within = rw (← v .place) (v .within);
+    reached = v .place;
+    within = v .within;
     put = rw (← v .word) (v .put);
     stopped = λ l. absurd (omega arith);
   }
@@ -111,8 +118,13 @@ module _ {text ws : List ℕ} (h : HeadStored text ws) (n : ℕ) (e : n ≡ vert
 pub stored-next : {text ws : List ℕ} → HeadStored text ws → (u w : ℕ) → u ≡ nextVertexIn ws → w ≡ u → w ≡ nextVertexOf text
 stored-next h u w f g = g ∙ f ∙ h .next-vertex
 
-pub stored-room : {text ws : List ℕ} → HeadStored text ws → 33 ≤ length text
-stored-room {text} h = head-room text (h .good)
+-- the place that the walk over the head line ends at
+module _ {text ws : List ℕ} (h : HeadStored text ws) (p : ℕ) (e : p ≡ lineEnd text 0 headLength) where
+  pub stored-place : p ≡ headLength
+  stored-place = head-walked text p (h .good) e
+
+  pub stored-within : p ≤ length text
+  stored-within = rw stored-place (head-room text (h .good))
 
 -- ---- all vertices read: what stands in the words
 
@@ -129,7 +141,7 @@ numbers-below text i g l =
     let room : vertexNumberIn text i + (verticesDue text - i) ≤ nextVertexOf text = leb-true _ _ (and-right _ _ (and-right _ _ g)) in
     omega arith
 
-module _ (text before after : List ℕ) (r : ℕ) (h : HeadStored text before) (v : VerticesRead text before after r) where
+module _ (text before after : List ℕ) (r at : ℕ) (h : HeadStored text before) (v : VerticesRead text before after r at) where
   pub vertices-head : HeadStored text after
   vertices-head = record {
     sized = put-length (v .put) ∙ h .sized;

@@ -4,7 +4,7 @@ ghost use Prim.Native.Nat.{_+_, _*_, _≤_};
 ghost use lib.ListN.{length};
 ghost use Rattle.frames.specs.Reading.{standsAt};
 ghost use Rattle.reader.specs.Lines.{Valued, frameSum, sealedAt, Sealed, countsFit, numberFits, vertexFits};
-use reader::BYTE_VALUES;
+use frames::BYTE_VALUES;
 use reader::NUMBER_AT;
 use reader::VERTEX_BYTES;
 use reader::byte_at;

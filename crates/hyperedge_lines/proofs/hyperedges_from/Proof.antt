@@ -38,14 +38,14 @@ number-at-requires c κs = (search needs, read-room (c .before .before .before .
 add-low : tie.Need-add-low Inv-loop μ-loop
 add-low c = search needs
 
-mul-at : tie.Need-mul-at Inv-loop μ-loop
-mul-at c = search needs
+mul-walk-line : tie.Need-mul-walk-line Inv-loop μ-loop
+mul-walk-line c = search needs
 
-add-at : tie.Need-add-at Inv-loop μ-loop
-add-at c = search needs
+add-walk-line : tie.Need-add-walk-line Inv-loop μ-loop
+add-walk-line c = search needs
 
-add-at-2 : tie.Need-add-at-2 Inv-loop μ-loop
-add-at-2 c = search needs
+walk-line-requires : tie.Need-walk-line-requires Inv-loop μ-loop
+walk-line-requires c κs = search needs
 
 add-to : tie.Need-add-to Inv-loop μ-loop
 add-to c = search needs
@@ -57,7 +57,12 @@ loop-less : tie.Need-loop-less Inv-loop μ-loop
 loop-less c = search needs
 
 loop-again : tie.Need-loop-again Inv-loop μ-loop
-loop-again c = search hyperedges-more
+loop-again c =
+    let judged = c .before .before .before .before .before in
+    let turn = judged .before .before in
+    let asked = turn .before .before .before .before .pre .1 .1 .1 in
+    hyperedges-more _ _ _ (asked .0 .0) (asked .0 .1) (asked .1 .1) (turn .before .loop .inv) (judged .read-hyperedge .ensures)
+    (search needs) (search needs) (search needs) (search needs)
 
 same-length-2 : tie.Need-same-length-2 Inv-loop μ-loop
 same-length-2 c = search needs
@@ -80,9 +85,9 @@ hyperedges-from-spec =
     add-number-at
     number-at-requires
     add-low
-    mul-at
-    add-at
-    add-at-2
+    mul-walk-line
+    add-walk-line
+    walk-line-requires
     add-to
     add-i
     loop-less

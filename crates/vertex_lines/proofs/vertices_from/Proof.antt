@@ -7,10 +7,10 @@ use Rattle.vertex_lines.proofs.vertices_from.Statement.{statement}
 use Rattle.vertex_lines.proofs.vertices_from.Tie as tie
 
 abbrev Inv-loop : tie.InvT-loop
-Inv-loop words₀ values text n next low₀ at₀ to₀ i₀ words low at to i = VerticesSo text words₀ words low at to i
+Inv-loop words₀ values text place n next at₀ low₀ to₀ i₀ words at low to i = VerticesSo text words₀ words low at to i
 
 abbrev μ-loop : tie.MeasureT-loop
-μ-loop words₀ values text n next low₀ at₀ to₀ i₀ words low at to i = n - i
+μ-loop words₀ values text place n next at₀ low₀ to₀ i₀ words at low to i = n - i
 
 loop-holds : tie.Need-loop-holds Inv-loop μ-loop
 loop-holds c = search vertices-none
@@ -42,8 +42,8 @@ add-low c = search needs
 put-vertex-requires : tie.Need-put-vertex-requires Inv-loop μ-loop
 put-vertex-requires c κs = (search needs, (search vertex-framed, search needs))
 
-add-at : tie.Need-add-at Inv-loop μ-loop
-add-at c = search needs
+walk-line-requires : tie.Need-walk-line-requires Inv-loop μ-loop
+walk-line-requires c κs = search needs
 
 add-i : tie.Need-add-i Inv-loop μ-loop
 add-i c = search needs
@@ -53,8 +53,11 @@ loop-less c = search needs
 
 loop-again : tie.Need-loop-again Inv-loop μ-loop
 loop-again c =
-    vertices-more _ _ _ (search needs) (search needs) (search needs) (c .before .before .before .before .before .before .before .before .loop .inv) _ (c .before .before .before .before .before .before .vertex-fits .ensures) (c .before .before .before .before .before .if1 .left) (c .before .before .before .before .before .before .before .loop-test .taken)
-    (c .before .before .before .before .number-at .ensures .0) (c .before .before .put-vertex .ensures)
+    let judged = c .before .before .before .before .before .before .before in
+    let turn = judged .before in
+    let asked = turn .before .before .before .before .pre .1 .1 in
+    vertices-more _ _ _ (asked .0 .0) (asked .0 .1) (asked .1 .0 .0) (turn .before .loop .inv) _ (judged .vertex-fits .ensures)
+    (search needs) (search needs) (search needs) (search needs) (search needs)
 
 same-length-2 : tie.Need-same-length-2 Inv-loop μ-loop
 same-length-2 c = search needs
@@ -78,7 +81,7 @@ vertices-from-spec =
     number-at-requires
     add-low
     put-vertex-requires
-    add-at
+    walk-line-requires
     add-i
     loop-less
     loop-again
