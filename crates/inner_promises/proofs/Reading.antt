@@ -13,7 +13,8 @@ use Rattle.lists.proofs.Cases.{clash, on-below}
 use Rattle.lists.proofs.Every.{every-at}
 use Rattle.layout.specs.Layout.{limit, verticesAt, hyperedgesAt, vertexWords, hyperedgeWords}
 use Rattle.frames.specs.Frames.{byteValues}
-use Rattle.frames.specs.Reading.{vertexIn, hyperedgeIn, hyperedgePlace, vertexGood, hyperedgeGood, verticesDue}
+use Rattle.frames.specs.Reading.{vertexIn, vertexPlace, hyperedgeIn, hyperedgePlace, vertexGood, hyperedgeGood, verticesDue}
+use Rattle.reader.specs.declared.Walked.{Walked}
 use Rattle.reader.specs.Lines.{Valued}
 use Rattle.reader.specs.Passes.{VerticesRead}
 use Rattle.reader.specs.Hyperedges.{HyperedgesRead}
@@ -73,10 +74,13 @@ good-one good m r s p q u v f g =
     (λ l. clash (every-at good s r q l) (f (omega (arith, l, v))))
     (λ l. on-below s r (λ h. clash (every-at good r s p h) (g (omega (arith, h, u)))) (λ h. omega (arith, l, h)))
 
-vertices-one : {text before x y : List ℕ} {a b : ℕ} → VerticesRead text before x a → VerticesRead text before y b → (a ≡ b) × (x ≡ y)
+vertices-one : {text before x y : List ℕ} {a b i j : ℕ} → VerticesRead text before x a i → VerticesRead text before y b j → (a ≡ b) × (i ≡ j) × (x ≡ y)
 vertices-one {text} {before} {a = a} {b} p q =
-    let e = good-one (vertexGood text) (verticesDue text) a b (p .good) (q .good) (p .some) (q .some) (p .stopped) (q .stopped) in
-    (e, p .put .wrote ∙ ap (λ (r : ℕ). overAt verticesAt (flat vertexWords (tab (vertexIn text) r)) before) e ∙ sym (q .put .wrote))
+    let e = good-one (vertexGood text) (verticesDue text) a b (p .good) (q .good) (p .some) (q .some) (p .stopped) (q .stopped) in (
+      e,
+      p .reached ∙ ap vertexPlace e ∙ sym (q .reached),
+      p .put .wrote ∙ ap (λ (r : ℕ). overAt verticesAt (flat vertexWords (tab (vertexIn text) r)) before) e ∙ sym (q .put .wrote),
+    )
 
 hyperedges-one : {text before x y : List ℕ} {m a b i j : ℕ} → HyperedgesRead text m before x a i → HyperedgesRead text m before y b j
     → (a < m → hyperedgeGood text a ≡ false) → (b < m → hyperedgeGood text b ≡ false) → (a ≡ b) × (i ≡ j) × (x ≡ y)
@@ -86,6 +90,10 @@ hyperedges-one {text} {before} {m = m} {a} {b} p q f g =
       p .reached ∙ ap (hyperedgePlace text) e ∙ sym (q .reached),
       p .put .wrote ∙ ap (λ (r : ℕ). overAt hyperedgesAt (flat (hyperedgeWords limit) (tab (hyperedgeIn text) r)) before) e ∙ sym (q .put .wrote),
     )
+
+-- the lines, the place behind them and the words, as a call gives them
+walked-one : {a b : Walked} {x y : List ℕ} → (a .lines ≡ b .lines) × (a .at ≡ b .at) × (x ≡ y) → (a ≡ b) × (x ≡ y)
+walked-one h = (ap₂ (λ (l t : ℕ). record { lines = l; at = t }) (h .0) (h .1), h .2)
 
 -- ---- digits and lines
 
@@ -147,9 +155,7 @@ pub put-head-agrees : Agrees 3 put-head.ps put-head.r put-head-reads.Post (λ _ 
 put-head-agrees κs args a b x y p q = put-one p q
 
 pub read-vertices-agrees : Agrees 3 read-vertices.ps read-vertices.r read-vertices-reads.Post (λ _ x. now (x .0))
-read-vertices-agrees κs args a b x y p q = vertices-one p q
+read-vertices-agrees κs args a b x y p q = walked-one (vertices-one p q)
 
 pub read-hyperedges-agrees : Agrees 3 read-hyperedges.ps read-hyperedges.r read-hyperedges-reads.Post (λ _ x. now (x .0))
-read-hyperedges-agrees κs args a b x y p q =
-    let h = hyperedges-one (p .0) (q .0) (p .1) (q .1) in
-    (ap₂ (λ (l t : ℕ). record { lines = l; at = t }) (h .0) (h .1), h .2)
+read-hyperedges-agrees κs args a b x y p q = walked-one (hyperedges-one (p .0) (q .0) (p .1) (q .1))
