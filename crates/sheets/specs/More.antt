@@ -3,7 +3,9 @@ use mathlib.Core.List.{List, [], _∷_}
 use Prim.Native.Nat.{ℕ}
 use Rattle.layout.specs.declared.Answer.the-variants.{Done, NoRoom}
 use Rattle.layout.specs.Content.{Table, hyperedgeOf}
+use Rattle.layout.specs.Layout.{limit, words}
 use Rattle.layout.specs.Answers.{Result, result}
+use Rattle.edits.specs.Results.{removeVertexResult}
 use Rattle.lookups.specs.declared.Direction.the-variants.{From, To}
 use Rattle.lookups.specs.declared.Relation.the-variants.{Along, Around}
 use Rattle.lookups.specs.Results.{relatedResult, intersectionsResult, degreeResult, connectingResult, fullHyperedgesResult, fullAdjacentResult, weighingResult, vertexIndexResult}
@@ -42,6 +44,10 @@ Lone = table (vertex 0 ∷ vertex 1 ∷ []) (hyperedgeOf 0 0 (1 ∷ 1 ∷ []) �
 abbrev pub Gaps : Table
 Gaps = table (vertex 1 ∷ vertex 3 ∷ vertex 4 ∷ []) (hyperedgeOf 0 0 (3 ∷ 1 ∷ []) ∷ hyperedgeOf 1 0 (3 ∷ 4 ∷ []) ∷ [])
 
+-- only [1,1], and no other vertex
+abbrev pub Filtered : Table
+Filtered = table (vertex 1 ∷ []) (hyperedgeOf 0 0 (1 ∷ 1 ∷ []) ∷ [])
+
 -- [0,1] thrice, of weights 2, 1 and 1
 abbrev pub Tied : Table
 Tied = table (vertex 0 ∷ vertex 1 ∷ []) (hyperedgeOf 0 2 (0 ∷ 1 ∷ []) ∷ hyperedgeOf 1 1 (0 ∷ 1 ∷ []) ∷ hyperedgeOf 2 1 (0 ∷ 1 ∷ []) ∷ [])
@@ -51,6 +57,10 @@ Tied = table (vertex 0 ∷ vertex 1 ∷ []) (hyperedgeOf 0 2 (0 ∷ 1 ∷ []) �
 -- a number or a yes or no, and nothing is lent
 abbrev pub answers : ℕ → Result
 answers d = result (Done d) []
+
+-- a removed vertex is filtered out at every place
+abbrev pub removed-0 : Case
+removed-0 = record { table = Repeated; query = removeVertexResult 0 (words limit Repeated); answer = result (Done 0) (words limit Filtered) }
 
 -- adjacent vertices and neighbourhoods
 abbrev pub after-0 : Case
@@ -191,7 +201,7 @@ tie = record { table = Tied; query = pairResult 0 1 (lent 7); answer = gives (1 
 -- all of them
 abbrev pub more : List Case
 more =
-    after-0 ∷ before-2 ∷ around-2 ∷ around-4 ∷ full-after-0 ∷ full-before-1
+    removed-0 ∷ after-0 ∷ before-2 ∷ around-2 ∷ around-4 ∷ full-after-0 ∷ full-before-1
     ∷ full-repeated ∷ out-of-0 ∷ into-1 ∷ connecting-K ∷ connecting-none ∷ weighing-2
     ∷ index-3 ∷ holding-3 ∷ intersecting ∷ intersecting-twice ∷ breadth-first ∷ depth-first
     ∷ reached-2 ∷ not-back ∷ reached-itself ∷ sort-kept ∷ sort-no-room ∷ acyclic-G
