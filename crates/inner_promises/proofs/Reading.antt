@@ -32,14 +32,14 @@ use Rattle.reader.proofs.walk_line.Kinds as walk-line
 use Rattle.reader.proofs.walk_line.Reads as walk-line-reads
 use Rattle.sealed.proofs.stands_at.Kinds as stands-at
 use Rattle.sealed.proofs.stands_at.Reads as stands-at-reads
-use Rattle.sealed.proofs.is_frame.Kinds as is-frame
-use Rattle.sealed.proofs.is_frame.Reads as is-frame-reads
+use Rattle.sealed.proofs.frame_end.Kinds as frame-end
+use Rattle.sealed.proofs.frame_end.Reads as frame-end-reads
 use Rattle.sealed.proofs.counts_fit.Kinds as counts-fit
 use Rattle.sealed.proofs.counts_fit.Reads as counts-fit-reads
 use Rattle.sealed.proofs.number_fits.Kinds as number-fits
 use Rattle.sealed.proofs.number_fits.Reads as number-fits-reads
-use Rattle.sealed.proofs.vertex_fits.Kinds as vertex-fits
-use Rattle.sealed.proofs.vertex_fits.Reads as vertex-fits-reads
+use Rattle.sealed.proofs.vertex_end.Kinds as vertex-end
+use Rattle.sealed.proofs.vertex_end.Reads as vertex-end-reads
 use Rattle.put_read.proofs.is_live.Kinds as is-live
 use Rattle.put_read.proofs.is_live.Reads as is-live-reads
 use Rattle.put_read.proofs.wide_word.Kinds as wide-word
@@ -50,8 +50,8 @@ use Rattle.put_read.proofs.put_vertex.Kinds as put-vertex
 use Rattle.put_read.proofs.put_vertex.Reads as put-vertex-reads
 use Rattle.put_read.proofs.put_members.Kinds as put-members
 use Rattle.put_read.proofs.put_members.Reads as put-members-reads
-use Rattle.head_line.proofs.head_good.Kinds as head-good
-use Rattle.head_line.proofs.head_good.Reads as head-good-reads
+use Rattle.head_line.proofs.head_end.Kinds as head-end
+use Rattle.head_line.proofs.head_end.Reads as head-end-reads
 use Rattle.head_line.proofs.put_head.Kinds as put-head
 use Rattle.head_line.proofs.put_head.Reads as put-head-reads
 use Rattle.vertex_lines.proofs.read_vertices.Kinds as read-vertices
@@ -117,8 +117,8 @@ walk-line-agrees κs args a b x y p q = (p ∙ sym q, refl)
 pub stands-at-agrees : Agrees 2 stands-at.ps stands-at.r stands-at-reads.Post (λ _ _. [])
 stands-at-agrees κs args a b x y p q = (p ∙ sym q, refl)
 
-pub is-frame-agrees : Agrees 2 is-frame.ps is-frame.r is-frame-reads.Post (λ _ _. [])
-is-frame-agrees κs args a b x y p q = (p ∙ sym q, refl)
+pub frame-end-agrees : Agrees 2 frame-end.ps frame-end.r frame-end-reads.Post (λ _ _. [])
+frame-end-agrees κs args a b x y p q = (p ∙ sym q, refl)
 
 pub counts-fit-agrees : Agrees 0 counts-fit.ps counts-fit.r counts-fit-reads.Post (λ _ _. [])
 counts-fit-agrees κs args a b x y p q = (p ∙ sym q, refl)
@@ -126,8 +126,8 @@ counts-fit-agrees κs args a b x y p q = (p ∙ sym q, refl)
 pub number-fits-agrees : Agrees 0 number-fits.ps number-fits.r number-fits-reads.Post (λ _ _. [])
 number-fits-agrees κs args a b x y p q = (p ∙ sym q, refl)
 
-pub vertex-fits-agrees : Agrees 2 vertex-fits.ps vertex-fits.r vertex-fits-reads.Post (λ _ _. [])
-vertex-fits-agrees κs args a b x y p q = (p ∙ sym q, refl)
+pub vertex-end-agrees : Agrees 2 vertex-end.ps vertex-end.r vertex-end-reads.Post (λ _ _. [])
+vertex-end-agrees κs args a b x y p q = (p ∙ sym q, refl)
 
 -- ---- what is read, put into words
 
@@ -148,8 +148,8 @@ put-members-agrees κs args a b x y p q = put-one p q
 
 -- ---- the lines
 
-pub head-good-agrees : Agrees 2 head-good.ps head-good.r head-good-reads.Post (λ _ _. [])
-head-good-agrees κs args a b x y p q = (p ∙ sym q, refl)
+pub head-end-agrees : Agrees 2 head-end.ps head-end.r head-end-reads.Post (λ _ _. [])
+head-end-agrees κs args a b x y p q = (p ∙ sym q, refl)
 
 pub put-head-agrees : Agrees 3 put-head.ps put-head.r put-head-reads.Post (λ _ x. now (x .0))
 put-head-agrees κs args a b x y p q = put-one p q

@@ -4,11 +4,12 @@ ghost use lib.ListN.{length};
 ghost use Rattle.lists.specs.Inner.{blank};
 ghost use Rattle.layout.specs.Layout.{limit, size};
 ghost use Rattle.layout.specs.Answers.{result};
+ghost use Rattle.frames.specs.Frames.{headLength};
 ghost use Rattle.frames.specs.Reading.{readResult, verticesDue, vertexPlace};
 ghost use Rattle.reader.specs.Lines.{Valued};
 ghost use Rattle.reader.specs.Passes.{storedRead, answerOf, HeadStored, HeadMade, VerticesMade, TextRead};
 ghost use Rattle.reader.specs.Hyperedges.{VerticesStored};
-use head_line::head_good;
+use head_line::head_end;
 use head_line::put_head;
 use hyperedge_lines::read_hyperedges;
 use layout::Answer;
@@ -79,15 +80,15 @@ fn read_rest(words: &mut [u32], values: &[u16; 256], text: &[u8], n: usize, plac
     0
 }
 
-// The vertices and what comes behind them, behind a good head.
-fn read_records(words: &mut [u32], values: &[u16; 256], text: &[u8]) -> usize
+// The vertices and what comes behind them, behind a good head, whose line ends at the place.
+fn read_records(words: &mut [u32], values: &[u16; 256], text: &[u8], place: usize) -> usize
     requires { ⌜ Valued (now values) ⌝ }
     requires { ⌜ HeadStored (now text) (now words) ⌝ }
-    requires { ⌜ HeadMade (now text) (now words) ⌝ }
+    requires { ⌜ HeadMade (now text) (now words) × (place ≡ headLength) ⌝ }
     ensures { λ r. ⌜ TextRead (now (text .entry)) (now (words .exit)) r ⌝ }
 {
     let n = layout::vertex_count(words);
-    let walked = read_vertices(words, values, text);
+    let walked = read_vertices(words, values, text, place);
     if walked.lines < n {
         return 2 + walked.lines;
     }
@@ -100,9 +101,10 @@ fn read_text(words: &mut [u32], text: &[u8]) -> usize
     ensures { λ r. ⌜ TextRead (now (text .entry)) (now (words .exit)) r ⌝ }
 {
     let values = value_table();
-    if !head_good(&values, text) {
+    let end = head_end(&values, text);
+    if end == 0 {
         return 1;
     }
     put_head(words, &values, text);
-    read_records(words, &values, text)
+    read_records(words, &values, text, end)
 }

@@ -1,17 +1,17 @@
 -- The vertex lines: what a pass over them has judged and stored, and what then stands in the words. Assumes nothing.
 use mathlib.Core.Path.{_≡_, refl, sym, ap, ap₂, _∙_}
-use mathlib.Core.Bool.{Bool, true, false, not}
+use mathlib.Core.Bool.{Bool, true}
 use mathlib.Core.List.{List}
 use Prim.Native.Nat.{ℕ, zero, suc, _+_, _-_, _*_, _≤_, _<_}
 use native.Mathlib.Nat.{add-zero, le-antisymm}
 use native.Mathlib.Numerals.{add-one}
 use native.Mathlib.Omega.{arith}
 use lib.ListN.{length, getD}
-use borrow.Author.Tests.{ltb-true, leb-true, not-true}
+use borrow.Author.Tests.{ltb-true, leb-true}
 use Rattle.lists.specs.Tests.{_and_, every}
 use Rattle.lists.specs.Lists.{tab, flat}
-use Rattle.lists.proofs.Cases.{on-same, and-left, and-right}
-use Rattle.lists.proofs.Every.{every-at, every-on}
+use Rattle.lists.proofs.Cases.{on-same, and-left, and-right, and-both}
+use Rattle.lists.proofs.Every.{every-at}
 use Rattle.lists.proofs.Tab.{tab-ext, tab-suc, length-tab, getD-tab, map-tab}
 use Rattle.lists.proofs.Flat.{flat-snoc, flat-at}
 use Rattle.layout.specs.Content.{vertexNumber, liveVertices, vertexOf, noVertex}
@@ -22,11 +22,11 @@ use Rattle.frames.specs.Put.{Put}
 use Rattle.frames.specs.Reading.{nextVertexOf, verticesDue, vertexPlace, numberIn, weightIn, vertexIn, vertexNumberIn, contentOf, climbsTo, numberGood, standsAt, vertexGood}
 use Rattle.frames.proofs.Laws.{put-length, put-append, put-as}
 use Rattle.frames.proofs.Lines.{put-none}
-use Rattle.reader.specs.Lines.{lineEnd, lowest, vertexFits}
+use Rattle.reader.specs.Lines.{behind, lowest, vertexFits}
 use Rattle.reader.specs.Passes.{Live, HeadStored, VerticesRead}
+use Rattle.reader.proofs.Ends.{stays-failed, goes-passed, goes-by}
 use Rattle.reader.proofs.Numbers.{number-good, lowest-first, lowest-next}
-use Rattle.reader.proofs.Frame.{sealed-walked}
-use Rattle.reader.proofs.HeadLine.{head-room, head-walked, vertices-few, vertices-given}
+use Rattle.reader.proofs.HeadLine.{head-room, vertices-few, vertices-given}
 use Rattle.reader.proofs.Records.{vertex-framed}
 use Rattle.reader.proofs.Puts.{put-before, put-in}
 
@@ -61,32 +61,32 @@ module _ (text : List ℕ) (n next : ℕ) (en : n ≡ verticesDue text) (ex : ne
       ap (λ (b : Bool). standsAt text (vertexPlace i) (vertexLine (vertexIn text i)) and b)
       (ap₂ (λ (k x : ℕ). numberGood (vertexNumberIn text) k x i) (sym en) (sym ex) ∙ sym (number-good (vertexNumberIn text) n next i given))
 
-  module _ {before after : List ℕ} {low at to i : ℕ} (v : VerticesSo text before after low at to i) (r : Bool) (e : r ≡ vertexFits text at low (next - (n - i))) where
-    found : r ≡ vertexGood text i
-    found = e ∙ ap₂ (λ (p l : ℕ). vertexFits text p l (next - (n - i))) (v .place) (v .least) ∙ sym (vertex-judged i)
+  module _ {before after : List ℕ} {low at to i : ℕ} (v : VerticesSo text before after low at to i)
+      (r : ℕ) (e : r ≡ behind (vertexFits text at low (next - (n - i))) at vertexLength) where
+    found : vertexFits text at low (next - (n - i)) ≡ vertexGood text i
+    found = ap₂ (λ (p l : ℕ). vertexFits text p l (next - (n - i))) (v .place) (v .least) ∙ sym (vertex-judged i)
 
-    pub vertices-stop : not r ≡ true → VerticesRead text before after i at
+    pub vertices-stop : r ≡ at → VerticesRead text before after i at
     vertices-stop q = record {
       some = v .some;
       good = v .good;
       reached = v .place;
       within = v .within;
       put = rw (← v .word) (v .put);
-      stopped = λ h. sym found ∙ not-true r q;
+      stopped = λ h. sym found ∙ stays-failed at vertexLength _ r e (omega arith) q;
     }
 
-    pub vertices-more : {x to₂ behind : ℕ} {later : List ℕ} → not r ≡ false → i < n → x ≡ numberIn text at
-        → Put to 2 (vertexWords (vertexOf (numberIn text at) (weightIn text at))) after later to₂ → behind ≡ lineEnd text at vertexLength
-        → VerticesSo text before later (x + 1) behind to₂ (i + 1)
-    vertices-more {behind = behind} q h exn f eb =
-        let s = vertex-framed text at low (next - (n - i)) r (v .within) e q in
-        let w : behind ≡ at + vertexLength = sealed-walked text at 10 s vertexLength behind refl eb in
+    pub vertices-more : {x to₂ : ℕ} {later : List ℕ} → (r ≡ at → ⊥) → i < n → x ≡ numberIn text at
+        → Put to 2 (vertexWords (vertexOf (numberIn text at) (weightIn text at))) after later to₂ → VerticesSo text before later (x + 1) r to₂ (i + 1)
+    unfolding every
+    vertices-more q h exn f =
+        let w : r ≡ at + vertexLength = goes-by at vertexLength _ r e q in
         record {
           some = omega arith;
-          good = every-on (vertexGood text) n i r found (v .good) q;
+          good = rw (add-one i) (and-both _ _ (v .good) (sym found ∙ goes-passed at vertexLength _ r e q));
           least = lowest-next (vertexNumberIn text) i _ (exn ∙ ap (numberIn text) (v .place));
           place = omega (arith, v .place);
-          within = omega (arith, s .room);
+          within = omega (arith, vertex-framed text at low (next - (n - i)) r (v .within) e q .room);
           word = omega (arith, f .reached, v .word);
           sized = put-length f ∙ v .sized;
           put = put-as (omega arith)
@@ -118,13 +118,8 @@ module _ {text ws : List ℕ} (h : HeadStored text ws) (n : ℕ) (e : n ≡ vert
 pub stored-next : {text ws : List ℕ} → HeadStored text ws → (u w : ℕ) → u ≡ nextVertexIn ws → w ≡ u → w ≡ nextVertexOf text
 stored-next h u w f g = g ∙ f ∙ h .next-vertex
 
--- the place that the walk over the head line ends at
-module _ {text ws : List ℕ} (h : HeadStored text ws) (p : ℕ) (e : p ≡ lineEnd text 0 headLength) where
-  pub stored-place : p ≡ headLength
-  stored-place = head-walked text p (h .good) e
-
-  pub stored-within : p ≤ length text
-  stored-within = rw stored-place (head-room text (h .good))
+pub stored-within : {text ws : List ℕ} → HeadStored text ws → (p : ℕ) → p ≡ headLength → p ≤ length text
+stored-within {text} h p e = rw e (head-room text (h .good))
 
 -- ---- all vertices read: what stands in the words
 

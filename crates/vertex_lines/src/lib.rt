@@ -7,15 +7,12 @@ ghost use Rattle.frames.specs.Frames.{headLength};
 ghost use Rattle.frames.specs.Reading.{nextVertexOf, verticesDue};
 ghost use Rattle.reader.specs.Lines.{Valued};
 ghost use Rattle.reader.specs.Passes.{HeadStored, VerticesRead};
-use frames::HEAD_LENGTH;
-use frames::VERTEX_LENGTH;
 use put_read::put_vertex;
 use put_read::wide_word;
 use reader::NUMBER_AT;
 use reader::Walked;
 use reader::number_at;
-use reader::walk_line;
-use sealed::vertex_fits;
+use sealed::vertex_end;
 
 // Judges the n vertex lines from the place on, one after the other, and stores each that is good, up to the first that is not. next is
 // the next vertex number.
@@ -39,25 +36,26 @@ fn vertices_from(
     let mut to = layout::VERTICES_AT;
     let mut i = 0;
     while i < n {
-        if !vertex_fits(values, text, at, low, next - (n - i)) {
+        let end = vertex_end(values, text, at, low, next - (n - i));
+        if end == at {
             return Walked { lines: i, at };
         }
         low = number_at(values, text, at + NUMBER_AT) + 1;
         to = put_vertex(words, to, values, text, at);
-        at = walk_line(text, at, VERTEX_LENGTH);
+        at = end;
         i += 1;
     }
     Walked { lines: i, at }
 }
 
-// The same behind the head line, with the head's numbers from the words.
-pub fn read_vertices(words: &mut [u32], values: &[u16; 256], text: &[u8]) -> Walked
+// The same, with the head's numbers from the words.
+pub fn read_vertices(words: &mut [u32], values: &[u16; 256], text: &[u8], place: usize) -> Walked
     requires { ⌜ Valued (now values) ⌝ }
     requires { ⌜ HeadStored (now text) (now words) ⌝ }
+    requires { ⌜ place ≡ headLength ⌝ }
     ensures { λ r. ⌜ VerticesRead (now (text .entry)) (now (words .entry)) (now (words .exit)) (r .lines) (r .at) ⌝ }
 {
     let n = layout::vertex_count(words);
     let next = wide_word(layout::next_vertex(words));
-    let place = walk_line(text, 0, HEAD_LENGTH);
     vertices_from(words, values, text, place, n, next)
 }

@@ -38,15 +38,6 @@ number-at-requires c κs = (search needs, read-room (c .before .before .before .
 add-low : tie.Need-add-low Inv-loop μ-loop
 add-low c = search needs
 
-mul-walk-line : tie.Need-mul-walk-line Inv-loop μ-loop
-mul-walk-line c = search needs
-
-add-walk-line : tie.Need-add-walk-line Inv-loop μ-loop
-add-walk-line c = search needs
-
-walk-line-requires : tie.Need-walk-line-requires Inv-loop μ-loop
-walk-line-requires c κs = search needs
-
 add-to : tie.Need-add-to Inv-loop μ-loop
 add-to c = search needs
 
@@ -57,12 +48,7 @@ loop-less : tie.Need-loop-less Inv-loop μ-loop
 loop-less c = search needs
 
 loop-again : tie.Need-loop-again Inv-loop μ-loop
-loop-again c =
-    let judged = c .before .before .before .before .before in
-    let turn = judged .before .before in
-    let asked = turn .before .before .before .before .pre .1 .1 .1 in
-    hyperedges-more _ _ _ (asked .0 .0) (asked .0 .1) (asked .1 .1) (turn .before .loop .inv) (judged .read-hyperedge .ensures)
-    (search needs) (search needs) (search needs) (search needs)
+loop-again c = search hyperedges-more
 
 same-length-2 : tie.Need-same-length-2 Inv-loop μ-loop
 same-length-2 c = search needs
@@ -85,9 +71,6 @@ hyperedges-from-spec =
     add-number-at
     number-at-requires
     add-low
-    mul-walk-line
-    add-walk-line
-    walk-line-requires
     add-to
     add-i
     loop-less

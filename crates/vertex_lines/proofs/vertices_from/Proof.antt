@@ -15,14 +15,14 @@ abbrev μ-loop : tie.MeasureT-loop
 loop-holds : tie.Need-loop-holds Inv-loop μ-loop
 loop-holds c = search vertices-none
 
-sub-vertex-fits : tie.Need-sub-vertex-fits Inv-loop μ-loop
-sub-vertex-fits c = search needs
+sub-vertex-end : tie.Need-sub-vertex-end Inv-loop μ-loop
+sub-vertex-end c = search needs
 
-sub-vertex-fits-2 : tie.Need-sub-vertex-fits-2 Inv-loop μ-loop
-sub-vertex-fits-2 c = search needs
+sub-vertex-end-2 : tie.Need-sub-vertex-end-2 Inv-loop μ-loop
+sub-vertex-end-2 c = search needs
 
-vertex-fits-requires : tie.Need-vertex-fits-requires Inv-loop μ-loop
-vertex-fits-requires c κs = search needs
+vertex-end-requires : tie.Need-vertex-end-requires Inv-loop μ-loop
+vertex-end-requires c κs = search needs
 
 same-length : tie.Need-same-length Inv-loop μ-loop
 same-length c = search needs
@@ -42,9 +42,6 @@ add-low c = search needs
 put-vertex-requires : tie.Need-put-vertex-requires Inv-loop μ-loop
 put-vertex-requires c κs = (search needs, (search vertex-framed, search needs))
 
-walk-line-requires : tie.Need-walk-line-requires Inv-loop μ-loop
-walk-line-requires c κs = search needs
-
 add-i : tie.Need-add-i Inv-loop μ-loop
 add-i c = search needs
 
@@ -52,12 +49,7 @@ loop-less : tie.Need-loop-less Inv-loop μ-loop
 loop-less c = search needs
 
 loop-again : tie.Need-loop-again Inv-loop μ-loop
-loop-again c =
-    let judged = c .before .before .before .before .before .before .before in
-    let turn = judged .before in
-    let asked = turn .before .before .before .before .pre .1 .1 in
-    vertices-more _ _ _ (asked .0 .0) (asked .0 .1) (asked .1 .0 .0) (turn .before .loop .inv) _ (judged .vertex-fits .ensures)
-    (search needs) (search needs) (search needs) (search needs) (search needs)
+loop-again c = search vertices-more
 
 same-length-2 : tie.Need-same-length-2 Inv-loop μ-loop
 same-length-2 c = search needs
@@ -72,16 +64,15 @@ vertices-from-spec =
     Inv-loop
     μ-loop
     loop-holds
-    sub-vertex-fits
-    sub-vertex-fits-2
-    vertex-fits-requires
+    sub-vertex-end
+    sub-vertex-end-2
+    vertex-end-requires
     same-length
     returns
     add-number-at
     number-at-requires
     add-low
     put-vertex-requires
-    walk-line-requires
     add-i
     loop-less
     loop-again
