@@ -136,7 +136,11 @@ vs_reply vs_get_transitive_closure(const uint32_t *table, size_t table_words, ui
 /* The smallest order of the vertices in which every step goes forward. Refusals 1, 9, 11. */
 vs_reply vs_topological_sort(const uint32_t *table, size_t table_words, uint32_t *out, size_t out_words);
 
-/* The components, each as length and members: by mutual reachability; without direction. Refusals 1, 11. */
+/* The components, each as length and members, ascending: by mutual reachability; without direction. Refusals 1, 11.
+ *
+ * Those by mutual reachability are ordered by their latest finished member, the latest first: vertices are visited depth
+ * first from ascending starts, largest neighbour first, and one is finished when every step from it is tried. Those without
+ * direction are ordered by their smallest member. */
 vs_reply vs_strongly_connected_components(const uint32_t *table, size_t table_words, uint32_t *out, size_t out_words);
 vs_reply vs_connected_components(const uint32_t *table, size_t table_words, uint32_t *out, size_t out_words);
 

@@ -406,13 +406,13 @@ pub fn topological_sort(table: &[u32], out: &mut [u32]) -> Answer {
     unsafe { c::vs_topological_sort(table.as_ptr(), table.len(), out.as_mut_ptr(), out.len()) }.answer()
 }
 
-/// The components by mutual reachability, each as length and members.
+/// The components by mutual reachability, each as length and members, ascending; ordered by latest finished member, the latest first.
 pub fn strongly_connected_components(table: &[u32], out: &mut [u32]) -> Answer {
     // The pointers and counts are those of slices that live and do not overlap for the time of the call.
     unsafe { c::vs_strongly_connected_components(table.as_ptr(), table.len(), out.as_mut_ptr(), out.len()) }.answer()
 }
 
-/// The components without direction, each as length and members.
+/// The components without direction, each as length and members, ascending; ordered by smallest member.
 pub fn connected_components(table: &[u32], out: &mut [u32]) -> Answer {
     // The pointers and counts are those of slices that live and do not overlap for the time of the call.
     unsafe { c::vs_connected_components(table.as_ptr(), table.len(), out.as_mut_ptr(), out.len()) }.answer()

@@ -3,7 +3,7 @@ ghost use mathlib.Core.Path.{_≡_};
 ghost use Prim.Native.Nat.{_<_};
 ghost use lib.ListN.{length};
 ghost use Rattle.layout.specs.Layout.{limit, vertexLimit, size, read};
-ghost use Rattle.layout.specs.WellFormed.{Formed};
+ghost use Rattle.layout.specs.Inner.{Formed};
 ghost use Rattle.layout.specs.Answers.{onFormed, result};
 ghost use Rattle.edits.specs.Results.{lastNumber, addVertexResult};
 ghost use Rattle.edits.specs.Records.{putVertex};

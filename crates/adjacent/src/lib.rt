@@ -2,33 +2,35 @@
 ghost use mathlib.Core.Path.{_≡_};
 ghost use Prim.Native.Nat.{_<_};
 ghost use lib.ListN.{length};
-ghost use Rattle.lists.specs.Lists.{facing};
 ghost use Rattle.layout.specs.Content.{liveVertices};
 ghost use Rattle.layout.specs.Layout.{limit, vertexLimit, hyperedgeCount, hyperedgeAt, read};
-ghost use Rattle.layout.specs.WellFormed.{Formed};
+ghost use Rattle.layout.specs.Inner.{Formed};
 ghost use Rattle.layout.specs.Steps.{stepsOf, isStep};
 ghost use Rattle.layout.specs.Answers.{result, onFormed};
-ghost use Rattle.lookups.specs.Lookups.{relates, isRelated};
+ghost use Rattle.lookups.specs.Lookups.{oriented, relates, isRelated};
 ghost use Rattle.lookups.specs.State.{someOf, with, isOther, noMarks, MarkedBy};
 ghost use Rattle.lookups.specs.Results.{relatedResult};
-ghost use Rattle.lookups.specs.declared.Relation.the-variants.{Around, From, To};
+ghost use Rattle.lookups.specs.declared.Direction.the-variants.{From, To};
+ghost use Rattle.lookups.specs.declared.Relation.the-variants.{Along, Around};
 use layout::Answer;
 use layout::Found;
 use layout::VertexIndex;
+use lookups::Direction;
 use lookups::Relation;
-use lookups::end_at;
+use lookups::ends_at;
 use lookups::holds;
 
-// Marks the other ends of the steps of a list that have v at the named end.
-fn mark_ends(t: &[u32], list: &[u32], v: u32, arriving: bool, marks: &mut [bool; 256])
+// Marks the vertices to which a step of a list leads from v, or from which one leads to v.
+fn mark_ends(t: &[u32], list: &[u32], v: u32, dir: Direction, marks: &mut [bool; 256])
     requires { ⌜ Formed limit (now t) ⌝ }
     requires { ⌜ length (now marks) ≡ vertexLimit ⌝ }
-    ensures { λ _. ⌜ MarkedBy (liveVertices (read limit (now (t .entry)))) (someOf (facing arriving isStep v) (stepsOf (now (list .entry)))) (now (marks .entry)) (now (marks .exit)) ⌝ }
+    ensures { λ _. ⌜ MarkedBy (liveVertices (read limit (now (t .entry)))) (someOf (oriented dir isStep v) (stepsOf (now (list .entry)))) (now (marks .entry)) (now (marks .exit)) ⌝ }
 {
     let mut i = 0;
     while i + 1 < list.len() {
-        if end_at(list, i, arriving) == v {
-            marks::mark(t, end_at(list, i, !arriving), marks);
+        let ends = ends_at(list, i, dir);
+        if ends.near == v {
+            marks::mark(t, ends.far, marks);
         }
         i += 1;
     }
@@ -57,8 +59,7 @@ fn mark_record(t: &[u32], j: usize, rel: Relation, v: u32, marks: &mut [bool; 25
 {
     let ms = layout::members_formed(t, j);
     match rel {
-        Relation::From => mark_ends(t, ms, v, false, marks),
-        Relation::To => mark_ends(t, ms, v, true, marks),
+        Relation::Along(dir) => mark_ends(t, ms, v, dir, marks),
         Relation::Around => {
             if holds(ms, v) {
                 mark_others(t, ms, v, marks);
@@ -97,22 +98,22 @@ fn list_related(t: &[u32], rel: Relation, v: VertexIndex, out: &mut [u32]) -> An
 
 // The vertices that a step from the vertex leads to.
 pub fn get_adjacent_vertices_from(t: &[u32], v: VertexIndex, out: &mut [u32]) -> Answer
-    ensures { λ r. ⌜ result r (now (out .exit)) ≡ onFormed (now (t .entry)) (now (out .entry)) (relatedResult From (v .0) (now (out .entry))) ⌝ }
+    ensures { λ r. ⌜ result r (now (out .exit)) ≡ onFormed (now (t .entry)) (now (out .entry)) (relatedResult (Along From) (v .0) (now (out .entry))) ⌝ }
 {
     if !well_formed::well_formed(t) {
         return Answer::NotWellFormed;
     }
-    list_related(t, Relation::From, v, out)
+    list_related(t, Relation::Along(Direction::From), v, out)
 }
 
 // The vertices from which a step leads to the vertex.
 pub fn get_adjacent_vertices_to(t: &[u32], v: VertexIndex, out: &mut [u32]) -> Answer
-    ensures { λ r. ⌜ result r (now (out .exit)) ≡ onFormed (now (t .entry)) (now (out .entry)) (relatedResult To (v .0) (now (out .entry))) ⌝ }
+    ensures { λ r. ⌜ result r (now (out .exit)) ≡ onFormed (now (t .entry)) (now (out .entry)) (relatedResult (Along To) (v .0) (now (out .entry))) ⌝ }
 {
     if !well_formed::well_formed(t) {
         return Answer::NotWellFormed;
     }
-    list_related(t, Relation::To, v, out)
+    list_related(t, Relation::Along(Direction::To), v, out)
 }
 
 // The vertices that stand with the vertex in some list.

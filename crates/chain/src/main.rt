@@ -21,10 +21,10 @@ fn say_vertex(v: u32) {
     io::print_decimal(STDOUT_FILENO, v as u64);
 }
 
-fn say_ends(out: &[u32; 256]) {
+fn say_ends(out: &[u32; layout::VERTEX_LIMIT]) {
     say_vertex(out[0]);
     say_vertex(out[1]);
-    say_vertex(out[255]);
+    say_vertex(out[layout::VERTEX_LIMIT - 1]);
     io::write_all(STDOUT_FILENO, b"\n");
 }
 
@@ -49,7 +49,7 @@ fn add_steps(t: &mut [u32]) {
 }
 
 fn breadth_first(t: &[u32]) {
-    let mut out = [0u32; 256];
+    let mut out = [0u32; layout::VERTEX_LIMIT];
     say(
         b"breadth first from 0",
         traversal::get_bfs(t, VertexIndex(0), &mut out),
@@ -58,7 +58,7 @@ fn breadth_first(t: &[u32]) {
 }
 
 fn depth_first(t: &[u32]) {
-    let mut out = [0u32; 256];
+    let mut out = [0u32; layout::VERTEX_LIMIT];
     say(
         b"depth first from 0",
         traversal::get_dfs(t, VertexIndex(0), &mut out),
@@ -67,21 +67,21 @@ fn depth_first(t: &[u32]) {
 }
 
 fn sorted(t: &[u32]) {
-    let mut out = [0u32; 256];
+    let mut out = [0u32; layout::VERTEX_LIMIT];
     say(b"sort", topological_sort::topological_sort(t, &mut out));
     say_ends(&out);
 }
 
 // The first component's length and member, and the last one's member.
 fn strong(t: &[u32]) {
-    let mut out = [0u32; 512];
+    let mut out = [0u32; 2 * layout::VERTEX_LIMIT];
     say(
         b"strong components",
         component_listings::strongly_connected_components(t, &mut out),
     );
     say_vertex(out[0]);
     say_vertex(out[1]);
-    say_vertex(out[511]);
+    say_vertex(out[2 * layout::VERTEX_LIMIT - 1]);
     io::write_all(STDOUT_FILENO, b"\n");
 }
 
@@ -121,7 +121,7 @@ fn short(t: &[u32], out: &mut [u32]) {
 }
 
 fn ask(t: &[u32]) {
-    let mut out = [0u32; 255];
+    let mut out = [0u32; layout::VERTEX_LIMIT - 1];
     breadth_first(t);
     depth_first(t);
     sorted(t);
@@ -131,7 +131,7 @@ fn ask(t: &[u32]) {
 }
 
 fn main() {
-    let mut t = [0u32; 7236];
+    let mut t = [0u32; layout::SIZE];
     add_vertices(&mut t);
     add_steps(&mut t);
     ask(&t);

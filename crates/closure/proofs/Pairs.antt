@@ -10,7 +10,8 @@ use lib.Dec.{eqb}
 use lib.ListN.{length, set, length-append, length-set}
 use borrow.Author.Tests.{eq-eqb, ne-eqb}
 use Rattle.lists.specs.Tests.{_and_, count, chosen}
-use Rattle.lists.specs.Lists.{flat, over, upTo, Wrote}
+use Rattle.lists.specs.Lists.{flat, over, upTo}
+use Rattle.lists.specs.Inner.{Wrote}
 use Rattle.lists.proofs.Chosen.{chosen-none, chosen-in, chosen-out, chosen-count, chosen-ext, over-none, over-more}
 use Rattle.lists.proofs.Count.{count-below}
 use Rattle.lists.proofs.Flat.{flat-snoc}

@@ -4,7 +4,7 @@ ghost use mathlib.Core.List.{[]};
 ghost use Prim.Native.Nat.{_≤_};
 ghost use Rattle.lists.specs.Tests.{bit, every};
 ghost use Rattle.layout.specs.Layout.{limit, vertexLimit, read};
-ghost use Rattle.layout.specs.WellFormed.{Formed};
+ghost use Rattle.layout.specs.Inner.{Formed};
 ghost use Rattle.layout.specs.Answers.{result, onFormed};
 ghost use Rattle.components.specs.Parts.{flagged};
 ghost use Rattle.structural.specs.Components.{connectedResult, connectedComponentsResult, strongComponentsResult};

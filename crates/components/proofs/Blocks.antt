@@ -10,7 +10,8 @@ use lib.Dec.{eqb, leb}
 use lib.ListN.{length, getD, take, drop, set, length-append, length-set, length-drop}
 use borrow.Author.Tests.{eq-eqb, ne-eqb, le-leb, lt-leb}
 use Rattle.lists.specs.Tests.{bit, count, chosen}
-use Rattle.lists.specs.Lists.{flat, over, counted, upTo, Wrote}
+use Rattle.lists.specs.Lists.{flat, over, counted, upTo}
+use Rattle.lists.specs.Inner.{Wrote}
 use Rattle.lists.proofs.Cases.{on-same, on-below}
 use Rattle.lists.proofs.Tab.{tab-suc, map-tab}
 use Rattle.lists.proofs.Flat.{flat-snoc, tab-getD}

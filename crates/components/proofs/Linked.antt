@@ -6,7 +6,8 @@ use Prim.Native.Nat.{ℕ, suc, _+_, _≤_, _<_, suc-le-suc}
 use native.Mathlib.Nat.{zero-lt-suc}
 use native.Mathlib.Omega.{arith}
 use lib.ListN.{length, getD, drop, replicate, drop-of-length-le}
-use Rattle.lists.specs.Lists.{memb, Below, upTo}
+use Rattle.lists.specs.Lists.{memb, upTo}
+use Rattle.lists.specs.Inner.{Below}
 use Rattle.lists.proofs.Tab.{length-tab, getD-tab, drop-tab}
 use Rattle.lists.proofs.Memb.{memb-getD}
 use Rattle.walks.specs.Walks.{here}

@@ -2,20 +2,20 @@
 use mathlib.Core.Path.{_≡_, refl}
 use mathlib.Core.Bool.{Bool, true}
 use mathlib.Core.Logic.{⊎-elim}
-use mathlib.Core.List.{List, [], _∷_, _++_, map}
+use mathlib.Core.List.{List, [], _∷_, map}
 use Prim.Native.Nat.{ℕ, zero, suc, _<_}
 use native.Mathlib.Nat.{lt-irrefl, not-suc-le-zero, le-of-suc-le-suc}
 use native.Mathlib.Omega.{arith}
-use lib.ListN.{length, getD, length-append, List·getD-append}
-use lib.Seq.{getD-append-seam}
+use lib.ListN.{length, getD}
 use Rattle.lists.specs.Tests.{chosen}
-use Rattle.lists.specs.Lists.{memb, Below, Ascending, turned}
+use Rattle.lists.specs.Lists.{memb, Ascending, turned}
+use Rattle.lists.specs.Inner.{Below}
 use Rattle.lists.proofs.Cases.{on, on-same, on-below, clash}
-use Rattle.lists.proofs.Maps.{map-length, map-snoc}
 use Rattle.lists.proofs.Memb.{memb-snoc, memb-snoc-self, memb-left, memb-getD, below-memb}
 use Rattle.lists.proofs.Any.{any-at}
 use Rattle.components.specs.Classes.{rootsOf}
 use Rattle.components.proofs.Roots.{Equivalence, roots-cover, roots-below, roots-apart}
+use Rattle.components.proofs.Ranked.{ranked-snoc}
 
 -- ---- the numbers that pass a test
 
@@ -40,32 +40,18 @@ chosen-has p (suc n) v l e =
     let r = chosen-has p n v (omega arith) e in
     on (p n) (λ q. rw q (memb-left v (chosen p n) (n ∷ []) r)) (λ q. rw q r))
 
-ascending-snoc : (xs : List ℕ) (y : ℕ) → Ascending xs → ((i : ℕ) → i < length xs → getD xs i 0 < y) → Ascending (xs ++ (y ∷ []))
-ascending-snoc xs y h b i j l k =
-    let li : i < length xs = omega (arith, length-append xs (y ∷ [])) in
-    on-same j (length xs)
-    (λ s. rw (s, getD-append-seam xs y [] 0, List·getD-append xs (y ∷ []) 0 i li) (b i li))
-    (λ s.
-    let lj : j < length xs = omega (arith, length-append xs (y ∷ [])) in
-    rw (List·getD-append xs (y ∷ []) 0 j lj, List·getD-append xs (y ∷ []) 0 i li) (h i j l lj))
-
 pub getD-map : {A B : Type 0} (g : A → B) (l : List A) (k : ℕ) (a : A) (b : B) → k < length l → getD (map g l) k b ≡ g (getD l k a)
 getD-map g [] k a b h = absurd (not-suc-le-zero h)
 getD-map g (x ∷ l) zero a b h = refl
 getD-map g (x ∷ l) (suc k) a b h = getD-map g l k a b (le-of-suc-le-suc h)
 
--- their words ascend, where f does below n
-pub chosen-ascends : (f : ℕ → ℕ) (p : ℕ → Bool) (n : ℕ) → ((i j : ℕ) → i < j → j < n → f i < f j) → Ascending (map f (chosen p n))
+pub chosen-ascends : (p : ℕ → Bool) (n : ℕ) → Ascending (chosen p n)
 unfolding chosen
-chosen-ascends f p zero h = λ i j l k. absurd (not-suc-le-zero k)
-chosen-ascends f p (suc n) h =
-    let r : Ascending (map f (chosen p n)) = chosen-ascends f p n (λ i j l k. h i j l (omega arith)) in
+chosen-ascends p zero = λ i j l k. absurd (not-suc-le-zero k)
+chosen-ascends p (suc n) =
     on (p n)
-    (λ q. rw (q, map-snoc f (chosen p n) n) (ascending-snoc (map f (chosen p n)) (f n) r
-    (λ i l.
-    let li : i < length (chosen p n) = rw (map-length f (chosen p n)) at l in
-    rw (getD-map f (chosen p n) i 0 0 li) (h (getD (chosen p n) i 0) n (chosen-passes p n (getD (chosen p n) i 0) (memb-getD (chosen p n) i li) .0) (omega arith)))))
-    (λ q. rw q r)
+    (λ q. rw q (ranked-snoc (λ i j. i < j) (chosen p n) n (chosen-ascends p n) (λ i l. chosen-passes p n (getD (chosen p n) i 0) (memb-getD (chosen p n) i l) .0)))
+    (λ q. rw q (chosen-ascends p n))
 
 -- ---- classes
 
@@ -74,7 +60,7 @@ module _ {P : ℕ → ℕ → Bool} {n : ℕ} (q : Equivalence P n) where
   joined-swap a b la lb e = q .meet b a b lb la lb (q .alike b lb) e
 
   module _ (order : List ℕ) (b : Below n order) where
-    root-in : (k : ℕ) → k < length (rootsOf P order) → getD (rootsOf P order) k 0 < n
+    pub root-in : (k : ℕ) → k < length (rootsOf P order) → getD (rootsOf P order) k 0 < n
     root-in k l = below-memb n (rootsOf P order) (roots-below P n order b) (getD (rootsOf P order) k 0) (memb-getD (rootsOf P order) k l)
 
     pub class-some : ((v : ℕ) → v < n → memb v order ≡ true) → (v : ℕ) → v < n → (k : ℕ) × (k < length (rootsOf P order)) × (P (getD (rootsOf P order) k 0) v ≡ true)

@@ -10,7 +10,8 @@ use lib.Dec.{eqb}
 use lib.ListN.{length, getD, replicate, length-append, length-replicate, getD-replicate, List·getD-append}
 use lib.Seq.{getD-append-seam}
 use borrow.Author.Tests.{eq-eqb, ne-eqb, eqb-true}
-use Rattle.lists.specs.Lists.{any, memb, Below, turned}
+use Rattle.lists.specs.Lists.{any, memb, turned}
+use Rattle.lists.specs.Inner.{Below}
 use Rattle.lists.proofs.Cases.{on, on-same, clash}
 use Rattle.lists.proofs.Memb.{below-snoc, below-memb, memb-getD}
 use Rattle.lists.proofs.Count.{bit-one}

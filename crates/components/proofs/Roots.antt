@@ -10,7 +10,8 @@ use lib.Dec.{eqb}
 use lib.ListN.{length, getD, length-append, List·getD-append}
 use lib.Seq.{getD-append-seam}
 use borrow.Author.Tests.{eqb-true}
-use Rattle.lists.specs.Lists.{memb, any, Below, turned}
+use Rattle.lists.specs.Lists.{memb, any, turned}
+use Rattle.lists.specs.Inner.{Below}
 use Rattle.lists.proofs.Cases.{on, on-same, clash, or-true, or-right}
 use Rattle.lists.proofs.Chosen.{chosen-ext}
 use Rattle.lists.proofs.Memb.{below-snoc}
@@ -48,7 +49,7 @@ module _ (P : ℕ → ℕ → Bool) where
       roots-keep Q n h rs (b .1) (rooted P roots r)
       (on (any (turned P r) roots) (λ e. rw (rooted-old roots r e) q) (λ e. rw (rooted-new roots r e) (h roots r (b .0) e q)))
 
-  joined-more : (v : ℕ) (roots : List ℕ) (r : ℕ) → any (turned P v) roots ≡ true → any (turned P v) (roots ++ (r ∷ [])) ≡ true
+  pub joined-more : (v : ℕ) (roots : List ℕ) (r : ℕ) → any (turned P v) roots ≡ true → any (turned P v) (roots ++ (r ∷ [])) ≡ true
   joined-more v roots r e = any-snoc (turned P v) roots r ∙ ap (λ (b : Bool). b || P r v) e
 
   rooted-joined : (roots : List ℕ) (r : ℕ) → P r r ≡ true → any (turned P r) (rooted P roots r) ≡ true

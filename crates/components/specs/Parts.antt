@@ -6,7 +6,8 @@ use Prim.Native.Nat.{ℕ, suc, _+_, _≤_, _<_}
 use lib.Dec.{eqb}
 use lib.ListN.{length, getD}
 use Rattle.lists.specs.Tests.{chosen}
-use Rattle.lists.specs.Lists.{Below, flat, counted, upTo}
+use Rattle.lists.specs.Lists.{flat, counted, upTo}
+use Rattle.lists.specs.Inner.{Below}
 use Rattle.components.specs.Classes.{rootsOf, rootsFrom}
 
 -- v has a mark

@@ -15,7 +15,8 @@ use Rattle.lists.proofs.Kept.{memb-filter}
 use Rattle.walks.specs.Walks.{Reach, here, step}
 use Rattle.layout.specs.Content.{Table, liveVertices, isLive, valid}
 use Rattle.layout.specs.Layout.{limit, vertexCount, read, words}
-use Rattle.layout.specs.WellFormed.{holdable, wellFormed, Formed}
+use Rattle.layout.specs.WellFormed.{holdable, wellFormed}
+use Rattle.layout.specs.Inner.{Formed}
 use Rattle.layout.specs.Answers.{Result, listed}
 use Rattle.layout.proofs.Read.{live-length, live-ascends, formed-of}
 use Rattle.layout.proofs.Shape.{shaped-by}
@@ -24,7 +25,8 @@ use Rattle.graph.specs.Reach.{matrix, Symmetric}
 use Rattle.graph.proofs.Bfs.{bfs-sound, bfs-complete}
 use Rattle.edits.specs.Edits.{removeVertex}
 use Rattle.edits.proofs.Holdable.{remove-vertex-holdable}
-use Rattle.steps.specs.Matrices.{together, TogetherIn, numberOf, between, Holds}
+use Rattle.steps.specs.Matrices.{together, TogetherIn, numberOf, between}
+use Rattle.steps.specs.Inner.{Holds}
 use Rattle.lists.proofs.Any.{any-at, any-of}
 use Rattle.steps.proofs.Among.{Among, together-swap, together-among}
 use Rattle.steps.proofs.Records.{Agrees, record-once, record-of, holds-agrees, reach-numbers, reach-records}

@@ -13,7 +13,8 @@ use mir.Syntax.{w32}
 use mir.Val.{Fits}
 use borrow.Author.Tests.{eq-eqb, ne-eqb}
 use Rattle.lists.specs.Tests.{_and_}
-use Rattle.lists.specs.Lists.{all, any, memb, Below, Ascending}
+use Rattle.lists.specs.Lists.{all, any, memb, Ascending}
+use Rattle.lists.specs.Inner.{Below}
 use Rattle.lists.proofs.Cases.{on-same, and-left, and-right, and-false-right, or-false}
 use Rattle.lists.proofs.Maps.{map-length, map-snoc}
 use Rattle.lists.proofs.Tab.{length-tab, getD-tab}
@@ -24,10 +25,11 @@ use Rattle.layout.specs.declared.Found.{Found}
 use Rattle.layout.specs.declared.Found.the-variants.{At, Nothing}
 use Rattle.layout.specs.Content.{liveVertices, isLive, position, place}
 use Rattle.layout.specs.Layout.{limit, vertexLimit, vertexCount, hyperedgeCount, hyperedgeAt, membersAt, readHyperedges, read}
-use Rattle.layout.specs.WellFormed.{Formed}
+use Rattle.layout.specs.Inner.{Formed}
 use Rattle.layout.proofs.Position.{position-here}
 use Rattle.layout.proofs.Read.{live-length, live-ascends, members-le, vertex-found}
-use Rattle.steps.specs.Matrices.{together, listsBoth, numberOf, between, cell, Holds}
+use Rattle.steps.specs.Matrices.{together, listsBoth, numberOf, between}
+use Rattle.steps.specs.Inner.{cell, Holds}
 use Rattle.lists.proofs.Any.{any-more}
 use Rattle.steps.proofs.Holds.{holds-ext, holds-none, holds-set}
 use Rattle.steps.proofs.Members.{members-live}

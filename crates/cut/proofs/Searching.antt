@@ -15,7 +15,7 @@ use Rattle.walks.proofs.Walks.{reach-map}
 use Rattle.layout.specs.Layout.{vertexLimit}
 use Rattle.graph.specs.Reach.{matrix}
 use Rattle.graph.specs.Post.{Reached}
-use Rattle.steps.specs.Matrices.{cell}
+use Rattle.steps.specs.Inner.{cell}
 use Rattle.cut.specs.State.{stopping, isMate, FirstMate, isKept, Cleared, CutIn, Decides, CutsMarked}
 
 -- ---- mates: r is what `is_mate` found

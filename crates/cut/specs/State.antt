@@ -10,7 +10,8 @@ use Rattle.lists.specs.Lists.{any}
 use Rattle.layout.specs.Content.{Table}
 use Rattle.layout.specs.Layout.{limit, vertexLimit, vertexCount, read}
 use Rattle.graph.specs.Reach.{Edge}
-use Rattle.steps.specs.Matrices.{together, listsBoth, between, cell, Holds}
+use Rattle.steps.specs.Matrices.{together, listsBoth, between}
+use Rattle.steps.specs.Inner.{cell, Holds}
 use Rattle.steps.specs.Ordered.{Standing}
 use Rattle.cut.specs.Cut.{Separated}
 

@@ -11,7 +11,8 @@ use mir.Val.{boolByte}
 use borrow.Author.Tests.{eqb-true, ne-eqb, lt-ltb, not-true, not-false}
 use Rattle.lists.proofs.Cases.{on-same, clash}
 use Rattle.lists.proofs.Count.{count-flip}
-use Rattle.depth.specs.Dfs.{Progress, unmarked, free, mark, enlist, tried, tries, visits}
+use Rattle.depth.specs.Dfs.{Progress, unmarked, mark, enlist, tried, tries, visits}
+use Rattle.depth.specs.Went.{free}
 
 -- one number fewer is not marked
 pub free-mark : (n x : ℕ) (m : List ℕ) → x < n → x < length m → getD m x 0 ≡ 0 → free n m ≡ suc (free n (set m x 1))

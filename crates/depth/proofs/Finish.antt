@@ -15,7 +15,8 @@ use Rattle.depth.proofs.Dfs.{tried-none, tried-marked, tried-new}
 use Rattle.depth.specs.Dfs.{Progress, unmarked, mark, enlist, tried, tries, visits}
 use Rattle.lists.proofs.Cases.{on, on-same, clash, or-true, or-right}
 use Rattle.lists.proofs.Memb.{memb-append, memb-self, memb-snoc, memb-snoc-self, memb-left, distinct-snoc, below-snoc}
-use Rattle.lists.specs.Lists.{memb, Distinct, Below}
+use Rattle.lists.specs.Lists.{memb, Distinct}
+use Rattle.lists.specs.Inner.{Below}
 use Rattle.depth.specs.Finish.{startAt, sweep, untouched, finished}
 
 -- from one state to another: the numbers that are newly marked are those that are newly listed, each once

@@ -11,13 +11,15 @@ use lib.Seq.{getD-set-same, getD-set-other, append-snoc}
 use borrow.Author.Tests.{eq-eqb, eqb-true, ne-eqb}
 use Rattle.depth.proofs.Dfs.{free-mark, tried-none, tried-marked, tried-new}
 use Rattle.depth.proofs.Finish.{Grown, grown-refl, grown-trans}
-use Rattle.depth.specs.Dfs.{Progress, unmarked, free, tried}
+use Rattle.depth.specs.Dfs.{Progress, unmarked, tried}
+use Rattle.depth.specs.Went.{free}
 use Rattle.depth.specs.Finish.{untouched}
 use Rattle.graph.specs.Reach.{Edge}
 use Rattle.lists.proofs.Cases.{on, on-same, clash, or-right}
 use Rattle.lists.proofs.Count.{count-mono, count-le}
 use Rattle.lists.proofs.Memb.{memb-self}
-use Rattle.lists.specs.Lists.{memb, Distinct, Below}
+use Rattle.lists.specs.Lists.{memb, Distinct}
+use Rattle.lists.specs.Inner.{Below}
 use Rattle.walks.proofs.Walks.{reach-trans, reach-keeps}
 use Rattle.walks.specs.Walks.{Reach, here, step}
 use Rattle.depth.specs.Pre.{enter, climbs, walks, preorder}

@@ -10,9 +10,9 @@ use lib.ListN.{length, getD, take, set, replicate, length-set, length-replicate}
 use lib.Seq.{take-suc-set, length-take-le}
 use Rattle.depth.proofs.Dfs.{free-mark, tried-marked, tries-step, tries-end, visits-more}
 use Rattle.depth.proofs.Pre.{climbs-step, climbs-end, walks-more}
-use Rattle.depth.specs.Dfs.{Progress, free, unmarked, enlist, tried, tries, visits}
+use Rattle.depth.specs.Dfs.{Progress, unmarked, enlist, tried, tries, visits}
+use Rattle.depth.specs.Went.{free, progress, Untried, Fit, Went, Going}
 use Rattle.depth.specs.Pre.{climbs, walks, preorder}
-use Rattle.depth.specs.Went.{progress, Untried, Fit, Went, Going}
 use Rattle.lists.proofs.Cases.{on, on-below}
 use Rattle.lists.proofs.Count.{count-below, count-le}
 

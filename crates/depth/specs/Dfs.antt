@@ -4,7 +4,6 @@ use mathlib.Core.List.{List, [], _∷_, _++_}
 use Prim.Native.Nat.{ℕ, zero, suc}
 use lib.Dec.{eqb}
 use lib.ListN.{getD, set}
-use Rattle.lists.specs.Tests.{count}
 
 -- the marks, and the listing so far
 pub record Progress : Type 0 where
@@ -14,10 +13,6 @@ pub record Progress : Type 0 where
 -- k is not marked
 abbrev pub unmarked : List ℕ → ℕ → Bool
 unmarked m k = eqb (getD m k 0) 0
-
--- how many of the numbers below n are not marked
-unfoldable pub free : ℕ → List ℕ → ℕ
-free n m = count (unmarked m) n
 
 -- x is marked
 abbrev pub mark : ℕ → Progress → Progress

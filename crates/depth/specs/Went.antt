@@ -3,7 +3,8 @@ use mathlib.Core.Path.{_≡_}
 use mathlib.Core.List.{List}
 use Prim.Native.Nat.{ℕ, _+_, _-_, _≤_, _<_}
 use lib.ListN.{length, take}
-use Rattle.depth.specs.Dfs.{Progress, free}
+use Rattle.depth.specs.Dfs.{Progress, unmarked, tried}
+use Rattle.lists.specs.Tests.{count}
 
 -- marks and listing as the arrays hold them
 abbrev pub progress : List ℕ → List ℕ → ℕ → Progress
@@ -13,6 +14,10 @@ progress m o t = record { marks = m; out = take t o }
 pub record Untried (n k marked r : ℕ) : Type 0 where
   pub none : n ≤ marked → r ≡ 0
   pub rest : marked < n → r ≡ k - 1
+
+-- how many of the numbers below n are not marked
+unfoldable pub free : ℕ → List ℕ → ℕ
+free n m = count (unmarked m) n
 
 -- there is room for every number that is not marked, and for the d that are being visited
 pub record Fit (n : ℕ) (m o : List ℕ) (t d : ℕ) : Type 0 where

@@ -2,14 +2,15 @@
 ghost use mathlib.Core.Path.{_≡_};
 ghost use Rattle.layout.specs.Content.{liveVertices, position};
 ghost use Rattle.layout.specs.Layout.{limit, read, vertexCount};
-ghost use Rattle.layout.specs.WellFormed.{Formed};
+ghost use Rattle.layout.specs.Inner.{Formed};
 ghost use Rattle.layout.specs.Answers.{result, onFormed, listed};
 ghost use Rattle.paths.specs.Paths.{pairResult, hyperedgeBy};
 ghost use mathlib.Core.Bool.{true};
 ghost use mathlib.Core.List.{[], _∷_, _++_};
 ghost use Prim.Native.Nat.{_+_, _*_, _<_, _≤_};
 ghost use lib.ListN.{length, take};
-ghost use Rattle.lists.specs.Lists.{over, overAt};
+ghost use Rattle.lists.specs.Lists.{over};
+ghost use Rattle.lists.specs.Inner.{overAt};
 ghost use Rattle.steps.specs.Matrices.{numberOf};
 ghost use Rattle.paths.specs.Choices.{Chosen};
 ghost use Rattle.paths.specs.Written.{Laid, noPath, pathHead, stepWords, pairBetween};

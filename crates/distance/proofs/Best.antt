@@ -14,7 +14,8 @@ use Rattle.lists.specs.Lists.{memb, filter, otherThan, Distinct}
 use Rattle.lists.proofs.Cases.{on, on-same, on-below, clash, or-true, or-right}
 use Rattle.order.specs.Sort.{LexLe}
 use Rattle.order.proofs.Smallest.{lex-antisym}
-use Rattle.distance.specs.Best.{Walk, total, Ahead, Best, lexLe, ahead, better, onward, bestOver, stay, bestWithin, best}
+use Rattle.distance.specs.Best.{Walk, total, Ahead, Best}
+use Rattle.distance.specs.Computed.{lexLe, ahead, better, onward, bestOver, stay, bestWithin, best}
 
 -- ---- the order of walks
 

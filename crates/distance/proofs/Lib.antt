@@ -5,4 +5,5 @@ pub mod Cost
 pub mod Lists
 pub mod Path
 pub mod Descent
+pub mod Reached
 pub mod Ways

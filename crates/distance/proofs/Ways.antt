@@ -11,12 +11,9 @@ use Rattle.distance.specs.Best.{Walk, total}
 use Rattle.distance.specs.Path.{key}
 use Rattle.distance.specs.Labels.{Shortest}
 use Rattle.distance.proofs.Path.{key-total}
+use Rattle.distance.proofs.Reached.{walk-snoc}
 
 module _ (R : ℕ → ℕ → Type 0) (W : ℕ → ℕ → ℕ) where
-  walk-snoc : (x : ℕ) (l : List ℕ) (y z : ℕ) → Walk R x l y → R y z → Walk R x (l ++ (z ∷ [])) z
-  walk-snoc x [] y z w r = (subst (λ (i : ℕ). R i z) (sym w) r, refl)
-  walk-snoc x (v ∷ l) y z w r = (w .0, walk-snoc v l y z (w .1) r)
-
   total-snoc : (x : ℕ) (l : List ℕ) (y z : ℕ) → Walk R x l y → total W x (l ++ (z ∷ [])) ≡ total W x l + W y z
   total-snoc x [] y z w = omega (arith, ap (λ (i : ℕ). W i z) w)
   total-snoc x (v ∷ l) y z w = omega (arith, total-snoc v l y z (w .1))
@@ -25,7 +22,7 @@ module _ (R : ℕ → ℕ → Type 0) (W : ℕ → ℕ → ℕ) where
   way-list here = ([], refl, refl, refl)
   way-list {x} (step {y = a} {z = z} {k = k} {j = j} w e) =
       let r = way-list w in
-      (r .0 ++ (z ∷ []), walk-snoc x (r .0) a z (r .1) e, omega (arith, total-snoc x (r .0) a z (r .1), r .2), omega (arith, length-append (r .0) (z ∷ []), r .3))
+      (r .0 ++ (z ∷ []), walk-snoc R x (r .0) a z (r .1) e, omega (arith, total-snoc x (r .0) a z (r .1), r .2), omega (arith, length-append (r .0) (z ∷ []), r .3))
 
   list-way : {s x k j : ℕ} (l : List ℕ) (y : ℕ) → Way R W s x k j → Walk R x l y → Way R W s y (k + total W x l) (j + length l)
   list-way {s} {x} {k} {j} [] y p w =

@@ -37,7 +37,7 @@ ascending-more [] n a b = and-both true true refl refl
 ascending-more (x ∷ xs) n a b =
     and-both _ _ (all-more (ltb x) xs n (and-left _ _ a) (and-left _ _ b)) (ascending-more xs n (and-right _ _ a) (and-right _ _ b))
 
-numbered-more : (xs : List ℕ) (n : ℕ) → numbered xs n ≡ true → numbered (xs ++ (n ∷ [])) (n + 1) ≡ true
+pub numbered-more : (xs : List ℕ) (n : ℕ) → numbered xs n ≡ true → numbered (xs ++ (n ∷ [])) (n + 1) ≡ true
 unfolding numbered
 numbered-more xs n e =
     and-both _ _ (ascending-more xs n (and-left _ _ e) (and-right _ _ e))
@@ -132,29 +132,9 @@ module _ (L : ℕ) (ms : List ℕ) (t : Table) (h : holdable L t ≡ true) (pos 
         members-live = all-kept (membersLive (liveVertices t)) (withMembers x ms) (t .hyperedges) (with-either (membersLive (liveVertices t)) x ms (λ e. live)) (p .members-live);
       })
 
--- ---- a number is not given twice: those given are below the next number, a new one is the next number, and the next number never falls
-
-below-next : (numbers : List ℕ) (next : ℕ) → numbered numbers next ≡ true → (x : ℕ) → memb x numbers ≡ true → x < next
+-- those that are numbered are below the next number
+pub below-next : (numbers : List ℕ) (next : ℕ) → numbered numbers next ≡ true → (x : ℕ) → memb x numbers ≡ true → x < next
 unfolding numbered
 below-next numbers next e x m =
     let a = memb-at x numbers m in
     rw (a .2) at (ltb-true _ next (all-at (isBelow next) numbers (a .0) 0 (and-right _ _ e) (a .1)))
-
-module _ (L : ℕ) (t : Table) (h : holdable L t ≡ true) (x : ℕ) where
-  pub vertex-given : isLive (liveVertices t) x ≡ true → x < t .nextVertex
-  vertex-given m = let p : Holdable L t = holdable-of h in below-next (liveVertices t) (t .nextVertex) (p .vertices-numbered) x m
-
-  pub hyperedge-given : isLive (liveHyperedges t) x ≡ true → x < t .nextHyperedge
-  hyperedge-given m = let p : Holdable L t = holdable-of h in below-next (liveHyperedges t) (t .nextHyperedge) (p .hyperedges-numbered) x m
-
-pub next-vertex : (w : ℕ) (t : Table) → (addVertex w t .nextVertex ≡ t .nextVertex + 1) × (addVertex w t .nextHyperedge ≡ t .nextHyperedge)
-unfolding addVertex
-next-vertex w t = (refl, refl)
-
-pub next-hyperedge : (ms : List ℕ) (w : ℕ) (t : Table) → (addHyperedge ms w t .nextHyperedge ≡ t .nextHyperedge + 1) × (addHyperedge ms w t .nextVertex ≡ t .nextVertex)
-unfolding addHyperedge
-next-hyperedge ms w t = (refl, refl)
-
-pub next-kept : (x : ℕ) (ms : List ℕ) (t : Table) → (updateHyperedge x ms t .nextVertex ≡ t .nextVertex) × (updateHyperedge x ms t .nextHyperedge ≡ t .nextHyperedge)
-unfolding updateHyperedge
-next-kept x ms t = (refl, refl)

@@ -8,14 +8,15 @@ use native.Mathlib.Omega.{arith}
 use lib.ListN.{length, set}
 use lib.Dec.{eqb}
 use borrow.Author.Tests.{eq-eqb, ne-eqb}
-use Rattle.lists.specs.Lists.{tab, overAt}
+use Rattle.lists.specs.Lists.{tab}
+use Rattle.lists.specs.Inner.{overAt}
 use Rattle.lists.proofs.Cases.{on-below}
 use Rattle.lists.proofs.Tab.{tab-ext, tab-suc, length-tab}
 use Rattle.layout.specs.declared.Answer.{Answer}
 use Rattle.layout.specs.declared.Answer.the-variants.{Done, Full, NumbersSpent}
 use Rattle.layout.specs.Content.{Hyperedge, hyperedgeOf}
 use Rattle.layout.specs.Layout.{hyperedgeLimit, size, hyperedgeWord, nextHyperedgeIn, hyperedgeCount, hyperedgeAt, readHyperedges, read, words, limit}
-use Rattle.layout.specs.WellFormed.{Formed}
+use Rattle.layout.specs.Inner.{Formed}
 use Rattle.layout.specs.Answers.{Result, result}
 use Rattle.edits.specs.declared.Judgement.{Judgement}
 use Rattle.edits.specs.declared.Judgement.the-variants.{Refused, Fine}

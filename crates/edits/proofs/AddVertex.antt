@@ -14,7 +14,8 @@ use Rattle.lists.proofs.Flat.{zeros-part-of}
 use Rattle.layout.specs.declared.Answer.the-variants.{Done, Full, NumbersSpent}
 use Rattle.layout.specs.Content.{Vertex}
 use Rattle.layout.specs.Layout.{limit, vertexLimit, recordSize, hyperedgesAt, size, vertexWord, hyperedgeWord, nextVertexIn, vertexCount, hyperedgeCount, vertexAt, hyperedgeAt, readVertices, readHyperedges, read, words}
-use Rattle.layout.specs.WellFormed.{recordShaped, unusedVertices, unusedHyperedges, Shaped, Formed}
+use Rattle.layout.specs.WellFormed.{recordShaped, unusedVertices, unusedHyperedges}
+use Rattle.layout.specs.Inner.{Shaped, Formed}
 use Rattle.layout.specs.Answers.{result}
 use Rattle.layout.proofs.Words.{words-of}
 use Rattle.edits.specs.Edits.{addVertex}

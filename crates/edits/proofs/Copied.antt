@@ -6,7 +6,7 @@ use native.Mathlib.Numerals.{add-one}
 use native.Mathlib.Omega.{arith}
 use lib.ListN.{length, getD, set, take, drop, replicate, length-set, length-drop, length-replicate, getD-replicate, drop-of-length-le}
 use lib.Seq.{paste, paste-zero, paste-suc, drop-paste, take-paste, getD-drop, take-all}
-use Rattle.lists.specs.Lists.{shifted}
+use Rattle.lists.specs.Inner.{shifted}
 
 -- after j turns, the first j of src stand in d from a on
 pub record Copied (d : List ℕ) (a : ℕ) (src : List ℕ) (j : ℕ) (s : List ℕ) : Type 0 where

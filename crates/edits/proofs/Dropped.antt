@@ -4,7 +4,8 @@ use mathlib.Core.List.{List, _++_, map}
 use Prim.Native.Nat.{ℕ, suc, _*_, _-_, _<_}
 use native.Mathlib.Omega.{arith}
 use lib.ListN.{length, getD, set, take, drop, List·getD-map}
-use Rattle.lists.specs.Lists.{filter, otherThan, Ascending, shifted}
+use Rattle.lists.specs.Lists.{filter, otherThan, Ascending}
+use Rattle.lists.specs.Inner.{shifted}
 use Rattle.lists.proofs.Maps.{map-length}
 use Rattle.lists.proofs.Tab.{length-tab, getD-tab}
 use Rattle.lists.proofs.Ascend.{ascending-apart}
@@ -15,7 +16,7 @@ use Rattle.layout.specs.declared.Found.the-variants.{At, Nothing}
 use Rattle.layout.specs.declared.Answer.the-variants.{Done}
 use Rattle.layout.specs.Content.{vertexNumber, hyperedgeNumber, liveVertices, liveHyperedges, position, noVertex, noHyperedge}
 use Rattle.layout.specs.Layout.{limit, vertexLimit, vertexSize, recordSize, verticesAt, hyperedgesAt, vertexCount, hyperedgeCount, vertexAt, hyperedgeAt, readVertices, readHyperedges, read, hyperedgeWords, words}
-use Rattle.layout.specs.WellFormed.{Formed}
+use Rattle.layout.specs.Inner.{Formed}
 use Rattle.layout.specs.Answers.{result, vertexMissing, hyperedgeMissing}
 use Rattle.layout.proofs.Position.{position-found}
 use Rattle.layout.proofs.Read.{live-hyperedges, live-ascends, vertex-found, hyperedge-found, members-le}

@@ -18,7 +18,7 @@ use Rattle.layout.specs.declared.Found.the-variants.{At, Nothing}
 use Rattle.layout.specs.declared.Answer.the-variants.{Done}
 use Rattle.layout.specs.Content.{Hyperedge, noHyperedge}
 use Rattle.layout.specs.Layout.{limit, hyperedgeLimit, hyperedgeWord, hyperedgeCount, membersAt, hyperedgeAt, readHyperedges, read}
-use Rattle.layout.specs.WellFormed.{Formed}
+use Rattle.layout.specs.Inner.{Formed}
 use Rattle.layout.specs.Answers.{Result, result}
 use Rattle.edits.specs.Results.{identical, onNew}
 use Rattle.edits.specs.Stages.{firstIdenticalFrom, firstIdentical, addNewResult, addJudgedResult}

@@ -6,7 +6,8 @@ use native.Mathlib.Nat.{mul-le-mul-right}
 use native.Mathlib.Omega.{arith}
 use lib.ListN.{length, getD, set, take, drop, replicate, length-append, length-drop, replicate-append-replicate}
 use lib.Seq.{split-at, length-take-le, getD-take, take-at, drop-at, drop-drop}
-use Rattle.lists.specs.Lists.{flat, pad, shifted}
+use Rattle.lists.specs.Lists.{flat, pad}
+use Rattle.lists.specs.Inner.{shifted}
 use Rattle.lists.proofs.Flat.{flat-append, Uniform, flat-length, length-pad}
 use Rattle.layout.specs.Content.{Vertex, Hyperedge, Table, noVertex, noHyperedge}
 use Rattle.layout.specs.Layout.{vertexLimit, hyperedgeLimit, vertexSize, recordSize, verticesAt, hyperedgesAt, vertexWords, hyperedgeWords, words}

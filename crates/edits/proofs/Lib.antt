@@ -7,6 +7,7 @@ pub mod UpdateHyperedge
 pub mod Identical
 pub mod Refusals
 pub mod AddHoldable
+pub mod Outcomes
 pub mod StaysFormed
 pub mod Copied
 pub mod Laid

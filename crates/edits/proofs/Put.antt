@@ -8,7 +8,8 @@ use native.Mathlib.Omega.{arith}
 use lib.ListN.{length, getD, set, take, drop, length-set, length-drop, List·getD-eq-default}
 use lib.Seq.{getD-set-same, getD-set-other, getD-append-add, length-take-le, ext-getD}
 use borrow.Author.Tests.{lt-ltb, le-leb}
-use Rattle.lists.specs.Lists.{tab, pad, overAt}
+use Rattle.lists.specs.Lists.{tab, pad}
+use Rattle.lists.specs.Inner.{overAt}
 use Rattle.lists.proofs.Cases.{on-same, on-below, and-both}
 use Rattle.lists.proofs.Tab.{tab-ext}
 use Rattle.lists.proofs.Every.{every-of}
@@ -16,7 +17,8 @@ use Rattle.lists.proofs.Parts.{part-at, part-tail}
 use Rattle.lists.proofs.Flat.{zero-end, length-pad, zeros-part-of}
 use Rattle.layout.specs.Content.{Hyperedge}
 use Rattle.layout.specs.Layout.{hyperedgeLimit, recordSize, verticesAt, hyperedgesAt, hyperedgeWord, vertexCount, hyperedgeCount, membersAt, hyperedgeAt, readVertices, hyperedgeWords, words}
-use Rattle.layout.specs.WellFormed.{recordShaped, unusedHyperedges, Shaped, Formed}
+use Rattle.layout.specs.WellFormed.{recordShaped, unusedHyperedges}
+use Rattle.layout.specs.Inner.{Shaped, Formed}
 use Rattle.layout.proofs.Words.{words-of}
 use Rattle.edits.specs.Records.{putHyperedge}
 use Rattle.lists.proofs.OverAt.{length-over-at, over-at-before, over-at-in, over-at-after}

@@ -13,11 +13,12 @@ use Rattle.layout.specs.declared.Answer.{Answer}
 use Rattle.layout.specs.declared.Answer.the-variants.{Done, NotWellFormed, NoMembers, VertexNotLive, TooManyMembers, Full, NumbersSpent}
 use Rattle.layout.specs.Content.{Table, liveVertices}
 use Rattle.layout.specs.Layout.{limit, size, vertexCount, vertexAt, read}
-use Rattle.layout.specs.Answers.{Result, result, firstMissing, vertexMissing, onLiveVertices}
+use Rattle.layout.specs.Answers.{Result, result, vertexMissing, onLiveVertices}
+use Rattle.layout.specs.Inner.{firstMissing}
 use Rattle.layout.proofs.Answers.{on-first-missing, on-none-missing}
 use Rattle.edits.specs.declared.Judgement.{Judgement}
 use Rattle.edits.specs.declared.Judgement.the-variants.{Refused, Fine}
-use Rattle.lists.specs.Lists.{overAt}
+use Rattle.lists.specs.Inner.{overAt}
 use Rattle.edits.specs.Results.{lastNumber, onSome, onShort, onRoom, onNumber, clearResult, emptyResult}
 use Rattle.edits.specs.Stages.{onMembers, orElse, JudgedBy}
 use Rattle.edits.proofs.Stored.{zeros-all}

@@ -6,7 +6,8 @@ use native.Mathlib.Numerals.{add-one}
 use native.Mathlib.Omega.{arith}
 use lib.ListN.{length, getD, set, take, replicate, length-set, length-replicate, getD-replicate, drop-of-length-le}
 use lib.Seq.{take-suc, take-all, length-take-le}
-use Rattle.lists.specs.Lists.{over, overAt}
+use Rattle.lists.specs.Lists.{over}
+use Rattle.lists.specs.Inner.{overAt}
 use Rattle.layout.specs.Layout.{limit, hyperedgeLimit, size, hyperedgeWord}
 use Rattle.edits.specs.Records.{memberWords}
 use Rattle.lists.proofs.OverAt.{over-at-none, set-over-at, over-at-join, over-at-more}

@@ -20,7 +20,7 @@ use Rattle.lists.proofs.Filter.{filter-snoc}
 use Rattle.lists.proofs.Flat.{flat-snoc, length-pad}
 use Rattle.layout.specs.Content.{Hyperedge}
 use Rattle.layout.specs.Layout.{limit, hyperedgeLimit, recordSize, hyperedgesAt, size, hyperedgeWord, hyperedgeCount, countAt, membersAt, hyperedgeAt, hyperedgeWords, read, words}
-use Rattle.layout.specs.WellFormed.{Formed}
+use Rattle.layout.specs.Inner.{Formed}
 use Rattle.layout.proofs.Read.{members-le}
 use Rattle.layout.proofs.Record.{hyperedge-moved}
 use Rattle.layout.proofs.Words.{words-read}

@@ -13,7 +13,8 @@ use Rattle.lists.proofs.Stride.{stride}
 use Rattle.lists.proofs.Flat.{zeros-part-at, zeros-part-of}
 use Rattle.lists.proofs.Parts.{part-tail}
 use Rattle.layout.specs.Layout.{hyperedgeLimit, recordSize, verticesAt, hyperedgesAt, vertexWord, hyperedgeWord, vertexCount, hyperedgeCount, vertexAt, hyperedgeAt, readVertices}
-use Rattle.layout.specs.WellFormed.{recordShaped, unusedVertices, unusedHyperedges, Shaped, Formed}
+use Rattle.layout.specs.WellFormed.{recordShaped, unusedVertices, unusedHyperedges}
+use Rattle.layout.specs.Inner.{Shaped, Formed}
 use Rattle.layout.proofs.Record.{hyperedge-moved, record-moved}
 
 -- the words that a table does not use

@@ -8,7 +8,8 @@ use native.Mathlib.Omega.{arith}
 use lib.ListN.{length, getD, set}
 use lib.Seq.{set-getD}
 use borrow.Author.Tests.{eq-eqb, ne-eqb}
-use Rattle.lists.specs.Lists.{sameList, overAt}
+use Rattle.lists.specs.Lists.{sameList}
+use Rattle.lists.specs.Inner.{overAt}
 use Rattle.lists.proofs.Cases.{on-same}
 use Rattle.lists.proofs.Tab.{map-tab, length-tab, getD-tab}
 use Rattle.lists.proofs.Ascend.{ascending-apart}
@@ -19,7 +20,7 @@ use Rattle.layout.specs.declared.Answer.{Answer}
 use Rattle.layout.specs.declared.Answer.the-variants.{Done, SameMembers}
 use Rattle.layout.specs.Content.{Hyperedge, hyperedgeNumber, liveHyperedges, position, positionFrom, hyperedgeOf, noHyperedge}
 use Rattle.layout.specs.Layout.{hyperedgeLimit, recordSize, hyperedgeWord, hyperedgeCount, membersAt, hyperedgeAt, readHyperedges, read, hyperedgeWords, words, limit}
-use Rattle.layout.specs.WellFormed.{Formed, hyperedgeColumn}
+use Rattle.layout.specs.Inner.{Formed, hyperedgeColumn}
 use Rattle.layout.specs.Answers.{Result, result, hyperedgeMissing}
 use Rattle.layout.proofs.Read.{hyperedge-found}
 use Rattle.layout.proofs.Answers.{on-missing, on-found}

@@ -2,7 +2,8 @@
 use mathlib.Core.List.{List, _∷_}
 use Prim.Native.Nat.{ℕ, _+_}
 use lib.ListN.{length, set}
-use Rattle.lists.specs.Lists.{overAt, pad}
+use Rattle.lists.specs.Lists.{pad}
+use Rattle.lists.specs.Inner.{overAt}
 use Rattle.layout.specs.Content.{Hyperedge}
 use Rattle.layout.specs.Layout.{vertexWord, hyperedgeWord, hyperedgeWords}
 

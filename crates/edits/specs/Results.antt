@@ -17,20 +17,32 @@ abbrev pub lastNumber : ℕ
 lastNumber = 4294967295
 
 -- 2: member list empty
+abbrev pub hasSome : List ℕ → Bool
+hasSome ms = ltb 0 (length ms)
+
 unfoldable pub onSome : List ℕ → ℕ → List ℕ → Result → Result
-onSome ms d lent r = cond (ltb 0 (length ms)) r (result (NoMembers d) lent)
+onSome ms d lent r = cond (hasSome ms) r (result (NoMembers d) lent)
 
 -- 6: member list over the limit
+abbrev pub isShort : List ℕ → Bool
+isShort ms = leb (length ms) limit
+
 unfoldable pub onShort : List ℕ → List ℕ → Result → Result
-onShort ms lent r = cond (leb (length ms) limit) r (result (TooManyMembers (length ms)) lent)
+onShort ms lent r = cond (isShort ms) r (result (TooManyMembers (length ms)) lent)
 
 -- 7: as many live as the limit
+abbrev pub hasRoom : ℕ → ℕ → Bool
+hasRoom live most = ltb live most
+
 unfoldable pub onRoom : ℕ → ℕ → List ℕ → Result → Result
-onRoom live most lent r = cond (ltb live most) r (result Full lent)
+onRoom live most lent r = cond (hasRoom live most) r (result Full lent)
 
 -- 8: the next number is the one that is never given
+abbrev pub isSpent : ℕ → Bool
+isSpent next = eqb next lastNumber
+
 unfoldable pub onNumber : ℕ → List ℕ → Result → Result
-onNumber next lent r = cond (eqb next lastNumber) (result NumbersSpent lent) r
+onNumber next lent r = cond (isSpent next) (result NumbersSpent lent) r
 
 -- the same list and weight
 unfoldable pub identical : List ℕ → ℕ → Hyperedge → Bool
@@ -47,8 +59,11 @@ membersOf x [] = []
 membersOf x (e ∷ es) = cond (eqb (e .number) x) (e .members) (membersOf x es)
 
 -- 5: new list equals the old
+abbrev pub equalsOld : ℕ → List ℕ → Table → Bool
+equalsOld x ms t = sameList ms (membersOf x (t .hyperedges))
+
 unfoldable pub onChanged : ℕ → List ℕ → Table → List ℕ → Result → Result
-onChanged x ms t lent r = cond (sameList ms (membersOf x (t .hyperedges))) (result (SameMembers (record { 0 = x })) lent) r
+onChanged x ms t lent r = cond (equalsOld x ms t) (result (SameMembers (record { 0 = x })) lent) r
 
 -- add_vertex: 1, 7, 8
 unfoldable pub addVertexResult : ℕ → List ℕ → Table → Result

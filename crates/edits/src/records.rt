@@ -3,7 +3,7 @@ ghost use mathlib.Core.Path.{_≡_};
 ghost use Prim.Native.Nat.{_+_, _≤_, _<_};
 ghost use lib.ListN.{length, replicate};
 ghost use Rattle.layout.specs.Layout.{limit, hyperedgeLimit, size, hyperedgeWord};
-ghost use Rattle.lists.specs.Lists.{overAt};
+ghost use Rattle.lists.specs.Inner.{overAt};
 ghost use Rattle.edits.specs.Records.{memberWords};
 
 // The number that is never given.

@@ -3,7 +3,7 @@ ghost use mathlib.Core.Path.{_≡_};
 ghost use Prim.Native.Nat.{_+_, _-_, _≤_};
 ghost use lib.ListN.{length, drop, replicate};
 ghost use lib.Seq.{paste};
-ghost use Rattle.lists.specs.Lists.{shifted};
+ghost use Rattle.lists.specs.Inner.{shifted};
 
 // Stores 0 in the k words from a on.
 pub fn clear_words(s: &mut [u32], a: usize, k: usize)

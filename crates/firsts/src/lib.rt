@@ -4,8 +4,8 @@ ghost use Prim.Native.Nat.{_<_, _+_};
 ghost use lib.ListN.{length, set};
 ghost use Rattle.lists.specs.Lists.{memb};
 ghost use Rattle.layout.specs.Layout.{limit, vertexLimit, hyperedgeCount};
-ghost use Rattle.layout.specs.WellFormed.{Formed};
-ghost use Rattle.steps.specs.Matrices.{cell};
+ghost use Rattle.layout.specs.Inner.{Formed};
+ghost use Rattle.steps.specs.Inner.{cell};
 ghost use Rattle.walk.specs.Passes.{isFirst, FirstsMarked, Firsts};
 
 // Whether v stands in the list. No word is skipped, so that the compiler can take several at a time.

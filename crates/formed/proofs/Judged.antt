@@ -20,7 +20,8 @@ use Rattle.layout.specs.declared.Found.{Found}
 use Rattle.layout.specs.declared.Found.the-variants.{At, Nothing}
 use Rattle.layout.specs.Content.{isLive, numbered, membersLive, valid, position}
 use Rattle.layout.specs.Layout.{limit, vertexLimit, hyperedgeLimit, vertexSize, recordSize, verticesAt, hyperedgesAt, size, vertexWord, hyperedgeWord, nextVertexIn, nextHyperedgeIn, vertexCount, hyperedgeCount, countAt, membersAt, hyperedgeAt, read}
-use Rattle.layout.specs.WellFormed.{recordShaped, unusedVertices, unusedHyperedges, shaped, wellFormed, Shaped, column, vertexColumn}
+use Rattle.layout.specs.WellFormed.{recordShaped, unusedVertices, unusedHyperedges, shaped, wellFormed}
+use Rattle.layout.specs.Inner.{Shaped, column, vertexColumn}
 use Rattle.layout.proofs.Position.{found-live, missing-dead, dense-live}
 use Rattle.layout.proofs.Shape.{shaped-of}
 use Rattle.layout.proofs.Read.{live-vertices, live-hyperedges, numbered-ascends, numbered-below}

@@ -6,7 +6,8 @@ ghost use Rattle.lists.specs.Tests.{every};
 ghost use Rattle.lists.specs.Lists.{all, zeros, isBelow};
 ghost use Rattle.layout.specs.Content.{numbered};
 ghost use Rattle.layout.specs.Layout.{limit, vertexLimit, hyperedgeLimit, size, vertexCount, hyperedgeCount};
-ghost use Rattle.layout.specs.WellFormed.{recordShaped, unusedVertices, unusedHyperedges, shaped, column};
+ghost use Rattle.layout.specs.WellFormed.{recordShaped, unusedVertices, unusedHyperedges, shaped};
+ghost use Rattle.layout.specs.Inner.{column};
 
 // Whether every word is below high. No word is skipped, so that the compiler can take several at a time.
 pub fn all_below(s: &[u32], high: u32) -> bool

@@ -15,8 +15,8 @@ use Rattle.lists.specs.Tests.{_and_, every}
 use Rattle.lists.specs.Lists.{flat, sumOver}
 use Rattle.lists.proofs.Every.{every-at}
 use Rattle.lists.proofs.OverAt.{over-at-split, over-at-pair}
-use Rattle.frames.specs.Frames.{byteValues, byteOf, numberBytes, shortBytes, byteSum, balance, digit, byteDigits, digits, numberDigits, lineFeed}
-use Rattle.frames.specs.Put.{Put}
+use Rattle.frames.specs.Frames.{byteValues, byteOf, numberBytes, shortBytes, byteSum, balance, digit, byteDigits, digits, lineFeed}
+use Rattle.frames.specs.Put.{numberDigits, Put}
 use Rattle.frames.specs.Pairs.{Pairs}
 use Rattle.frames.proofs.Laws.{put-append, put-as}
 

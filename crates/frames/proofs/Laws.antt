@@ -4,7 +4,8 @@ use mathlib.Core.List.{List, _++_}
 use Prim.Native.Nat.{ℕ, _+_}
 use native.Mathlib.Omega.{arith}
 use lib.ListN.{length, length-append}
-use Rattle.lists.specs.Lists.{over, overAt}
+use Rattle.lists.specs.Lists.{over}
+use Rattle.lists.specs.Inner.{overAt}
 use Rattle.lists.proofs.OverAt.{length-over-at, over-at-join}
 use Rattle.frames.specs.Put.{Put}
 

@@ -10,8 +10,8 @@ use Rattle.lists.specs.Lists.{flat, sumOver}
 use Rattle.lists.proofs.Flat.{flat-append, flat-snoc}
 use Rattle.lists.proofs.OverAt.{over-at-none}
 use Rattle.layout.specs.Content.{vertexOf, hyperedgeOf}
-use Rattle.frames.specs.Frames.{byteValues, numberBytes, shortBytes, headFrame, vertexFrame, hyperedgeFrame, byteSum, balance, check, sealed, digit, byteDigits, digits, numberDigits, lineFeed, line, vertexLine, hyperedgeLine, headLength, vertexLength, memberLength, hyperedgeLength}
-use Rattle.frames.specs.Put.{Put}
+use Rattle.frames.specs.Frames.{byteValues, numberBytes, shortBytes, headFrame, vertexFrame, hyperedgeFrame, byteSum, balance, check, sealed, digit, byteDigits, digits, lineFeed, line, vertexLine, hyperedgeLine, headLength, vertexLength, memberLength, hyperedgeLength}
+use Rattle.frames.specs.Put.{numberDigits, Put}
 use Rattle.frames.proofs.Laws.{put-append, put-as}
 
 pub sum-append : (xs ys : List ℕ) → byteSum (xs ++ ys) ≡ byteSum xs + byteSum ys

@@ -13,7 +13,7 @@ use Rattle.lists.proofs.Flat.{flat-length, flat-suc, flat-more}
 use Rattle.layout.specs.declared.Answer.the-variants.{Done, NoRoom}
 use Rattle.layout.specs.Content.{Vertex, Hyperedge, Table, vertexOf, hyperedgeOf}
 use Rattle.layout.specs.Layout.{nextVertexIn, nextHyperedgeIn, vertexCount, hyperedgeCount, vertexAt, membersAt, hyperedgeAt, read}
-use Rattle.layout.specs.WellFormed.{Formed}
+use Rattle.layout.specs.Inner.{Formed}
 use Rattle.layout.specs.Answers.{result}
 use Rattle.layout.proofs.Answers.{listed-over, listed-fits}
 use Rattle.layout.proofs.Read.{members-le}

@@ -31,7 +31,7 @@ unfoldable pub linesOf : List ℕ → List (List ℕ)
 linesOf [] = []
 linesOf (b ∷ text) = cond (eqb b 10) ((b ∷ []) ∷ linesOf text) (onto b (linesOf text))
 
--- the first k lines are the same, or all of them where one text has fewer
+-- the first k lines are the same; a text with fewer than k lines has them in common with itself alone
 abbrev pub SameLines : ℕ → List ℕ → List ℕ → Type 0
 SameLines k text other = take k (linesOf text) ≡ take k (linesOf other)
 

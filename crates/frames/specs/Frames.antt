@@ -70,10 +70,6 @@ byteDigits b = digit (b / 16) ∷ digit (b % 16) ∷ []
 unfoldable pub digits : List ℕ → List ℕ
 digits bs = flat byteDigits bs
 
--- a number in digits
-unfoldable pub numberDigits : ℕ → List ℕ
-numberDigits x = digits (numberBytes x)
-
 -- a line feed
 abbrev pub lineFeed : List ℕ
 lineFeed = 10 ∷ []

@@ -1,4 +1,6 @@
--- Reading frame text: what stands in a text, which of its lines are good, and what a read answers and leaves. Assumes nothing.
+-- Reading frame text: what stands in a text, which of its lines are good, and what a read answers and leaves. By `accepted-written`,
+-- `written-accepted`, `round-trip` and `faulty-line` (frame_laws) a read accepts the texts that are `Written`, gives back the words that they were
+-- written from, and names the line that is `Faulty`: who believes Frames.antt and Faulty.antt need not believe this file. Assumes nothing.
 use mathlib.Core.Bool.{Bool, true, cond, _||_}
 use mathlib.Core.List.{List}
 use Prim.Native.Nat.{ℕ, zero, suc, _+_, _*_, _-_}

@@ -2,8 +2,8 @@
 ghost use mathlib.Core.Path.{_≡_};
 ghost use Prim.Native.Nat.{_+_, _<_, _≤_};
 ghost use lib.ListN.{length};
-ghost use Rattle.frames.specs.Frames.{byteValues, byteOf, shortBytes, digit, byteDigits, digits, numberDigits};
-ghost use Rattle.frames.specs.Put.{Put};
+ghost use Rattle.frames.specs.Frames.{byteValues, byteOf, shortBytes, digit, byteDigits, digits};
+ghost use Rattle.frames.specs.Put.{numberDigits, Put};
 ghost use Rattle.frames.specs.Pairs.{Pairs};
 
 const DIGITS: [u8; 16] = *b"0123456789ABCDEF";

@@ -4,13 +4,14 @@ ghost use Prim.Native.Nat.{ℕ, _+_, _<_, _≤_};
 ghost use lib.ListN.{length, getD};
 ghost use Rattle.layout.specs.Content.{liveVertices, position};
 ghost use Rattle.layout.specs.Layout.{limit, vertexLimit, vertexCount, hyperedgeCount, read};
-ghost use Rattle.layout.specs.WellFormed.{Formed};
+ghost use Rattle.layout.specs.Inner.{Formed};
 ghost use Rattle.layout.specs.declared.Found.the-variants.{At};
 ghost use Rattle.lookups.specs.Lookups.{connecting};
 ghost use Rattle.lookups.specs.State.{listingMost, listingAhead, nothing, tallying, wordsFor, headFor, start, heading, Beyond, Headed, offset, placing, Filling};
 use layout::Found;
 use layout::VertexIndex;
-use lookups::end_at;
+use lookups::Direction;
+use lookups::ends_at;
 
 // The words of a vertex with so many hyperedges.
 pub fn words_for(count: usize) -> usize
@@ -73,41 +74,42 @@ fn put(t: &[u32], x: u32, e: u32, nexts: &mut [usize; 256], out: &mut [u32])
     }
 }
 
-// Writes the number of record j for each of its places that has v at the named end, at the next word of the vertex at the other.
+// Writes the number of record j for each of its places at which a step leads from v, or to v, at the next word of the vertex at the other end.
 fn fill_record(
     t: &[u32],
     j: usize,
     v: u32,
-    arriving: bool,
+    dir: Direction,
     nexts: &mut [usize; 256],
     out: &mut [u32],
 )
     requires { ⌜ Formed limit (now t) ⌝ }
-    requires { ⌜ (j < hyperedgeCount (now t)) × Filling (liveVertices (read limit (now t))) (connecting arriving (read limit (now t)) v) (listingAhead arriving (read limit (now t)) v j) (now nexts) (now out) ⌝ }
-    ensures { λ _. ⌜ Filling (liveVertices (read limit (now (t .entry)))) (connecting arriving (read limit (now (t .entry))) v) (listingAhead arriving (read limit (now (t .entry))) v (j + 1)) (now (nexts .exit)) (now (out .exit)) ⌝ }
-    ensures { λ _. ⌜ Beyond (offset (liveVertices (read limit (now (t .entry)))) (connecting arriving (read limit (now (t .entry))) v) (length (liveVertices (read limit (now (t .entry)))))) (now (out .entry)) (now (out .exit)) ⌝ }
+    requires { ⌜ (j < hyperedgeCount (now t)) × Filling (liveVertices (read limit (now t))) (connecting dir (read limit (now t)) v) (listingAhead dir (read limit (now t)) v j) (now nexts) (now out) ⌝ }
+    ensures { λ _. ⌜ Filling (liveVertices (read limit (now (t .entry)))) (connecting dir (read limit (now (t .entry))) v) (listingAhead dir (read limit (now (t .entry))) v (j + 1)) (now (nexts .exit)) (now (out .exit)) ⌝ }
+    ensures { λ _. ⌜ Beyond (offset (liveVertices (read limit (now (t .entry)))) (connecting dir (read limit (now (t .entry))) v) (length (liveVertices (read limit (now (t .entry)))))) (now (out .entry)) (now (out .exit)) ⌝ }
 {
     let ms = layout::members_formed(t, j);
     let e = layout::hyperedge_number(t, j);
     let mut i = 0;
     while i + 1 < ms.len() {
-        if end_at(ms, i, arriving) == v {
-            put(t, end_at(ms, i, !arriving), e, nexts, out);
+        let ends = ends_at(ms, i, dir);
+        if ends.near == v {
+            put(t, ends.far, e, nexts, out);
         }
         i += 1;
     }
 }
 
-pub fn fill(t: &[u32], v: u32, arriving: bool, nexts: &mut [usize; 256], out: &mut [u32])
+pub fn fill(t: &[u32], v: u32, dir: Direction, nexts: &mut [usize; 256], out: &mut [u32])
     requires { ⌜ Formed limit (now t) ⌝ }
-    requires { ⌜ Filling (liveVertices (read limit (now t))) (connecting arriving (read limit (now t)) v) (connecting arriving (read limit (now t)) v) (now nexts) (now out) ⌝ }
-    ensures { λ _. ⌜ Filling (liveVertices (read limit (now (t .entry)))) (connecting arriving (read limit (now (t .entry))) v) nothing (now (nexts .exit)) (now (out .exit)) ⌝ }
-    ensures { λ _. ⌜ Beyond (offset (liveVertices (read limit (now (t .entry)))) (connecting arriving (read limit (now (t .entry))) v) (length (liveVertices (read limit (now (t .entry)))))) (now (out .entry)) (now (out .exit)) ⌝ }
+    requires { ⌜ Filling (liveVertices (read limit (now t))) (connecting dir (read limit (now t)) v) (connecting dir (read limit (now t)) v) (now nexts) (now out) ⌝ }
+    ensures { λ _. ⌜ Filling (liveVertices (read limit (now (t .entry)))) (connecting dir (read limit (now (t .entry))) v) nothing (now (nexts .exit)) (now (out .exit)) ⌝ }
+    ensures { λ _. ⌜ Beyond (offset (liveVertices (read limit (now (t .entry)))) (connecting dir (read limit (now (t .entry))) v) (length (liveVertices (read limit (now (t .entry)))))) (now (out .entry)) (now (out .exit)) ⌝ }
 {
     let m = layout::hyperedge_count(t);
     let mut j = 0;
     while j < m {
-        fill_record(t, j, v, arriving, nexts, out);
+        fill_record(t, j, v, dir, nexts, out);
         j += 1;
     }
 }

@@ -14,7 +14,8 @@ use Rattle.graph.specs.Reach.{Edge}
 use Rattle.lists.proofs.Cases.{on, on-same, clash}
 use Rattle.lists.proofs.Count.{pigeon}
 use Rattle.lists.proofs.Memb.{memb-self, memb-left, memb-getD, memb-at, memb-snoc, memb-snoc-self, below-snoc, below-memb, distinct-snoc}
-use Rattle.lists.specs.Lists.{memb, Distinct, Below}
+use Rattle.lists.specs.Lists.{memb, Distinct}
+use Rattle.lists.specs.Inner.{Below}
 use Rattle.walks.proofs.Walks.{reach-keeps}
 use Rattle.walks.specs.Walks.{Reach, here, step}
 use Rattle.graph.specs.Bfs.{push, spread, run, bfs}

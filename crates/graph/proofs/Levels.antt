@@ -1,6 +1,7 @@
 -- Breadth first lists by number of steps. Assumes nothing.
 use mathlib.Core.Path.{_≡_, refl, sym, ap, ap₂, _∙_, subst}
 use mathlib.Core.Bool.{Bool, true, false, not}
+use mathlib.Core.Logic.{_↔_}
 use mathlib.Core.List.{List, [], _∷_, _++_}
 use Prim.Native.Nat.{ℕ, zero, suc, _+_, _-_, _≤_, _<_}
 use native.Mathlib.Nat.{not-suc-le-zero, lt-irrefl, le-antisymm}
@@ -23,6 +24,19 @@ use Rattle.graph.specs.Held.{outside}
 use Rattle.graph.proofs.Bfs.{Served, run-more, run-end, run-end-zero, served-first, served-more, bfs-once, bfs-below, bfs-complete}
 use Rattle.graph.proofs.Outside.{chosen-below, chosen-memb, distinct-before, spread-outside}
 
+module _ (R : ℕ → ℕ → Type 0) (x : ℕ) where
+  steps-reach : {k y : ℕ} → ReachIn R x k y → Reach R x y
+  steps-reach start = here
+  steps-reach (onward w r) = step (steps-reach w) r
+
+  reach-steps : {y : ℕ} → Reach R x y → (k : ℕ) × ReachIn R x k y
+  reach-steps here = (zero, start)
+  reach-steps (step w r) = let p = reach-steps w in (suc (p .0), onward (p .1) r)
+
+  -- y is reached exactly where there is a walk to it of some number of steps
+  pub reached-in : (y : ℕ) → Reach R x y ↔ ((k : ℕ) × ReachIn R x k y)
+  reached-in y = (reach-steps, λ p. steps-reach (p .1))
+
 -- while the queue is served from place k on: it begins with s; each other number is stepped to from a served place; and where a served
 -- place steps to a number, no number before that one waits longer for a step to it
 pub record Levels (E : ℕ → ℕ → Bool) (s k : ℕ) (q : List ℕ) : Type 0 where
@@ -32,7 +46,7 @@ pub record Levels (E : ℕ → ℕ → Bool) (s k : ℕ) (q : List ℕ) : Type 0
   pub earlier : (i j a : ℕ) → 0 < i → i ≤ j → j < length q → a < k → E (getD q a 0) (getD q j 0) ≡ true → (p : ℕ) × (p ≤ a) × (E (getD q p 0) (getD q i 0) ≡ true)
 
 -- no number stands at two places
-distinct-apart : (l : List ℕ) → Distinct l → (i j : ℕ) → i < j → j < length l → getD l i 0 ≡ getD l j 0 → ⊥
+pub distinct-apart : (l : List ℕ) → Distinct l → (i j : ℕ) → i < j → j < length l → getD l i 0 ≡ getD l j 0 → ⊥
 distinct-apart l d i j h b e =
     clash (ap (λ (z : ℕ). memb z (take j l)) (sym (getD-take j l i 0 h ∙ e)) ∙ memb-getD (take j l) i (omega (arith, length-take-le j l (omega arith)))) (distinct-before l j d b)
 
@@ -124,10 +138,6 @@ module _ (E : ℕ → ℕ → Bool) (n s : ℕ) where
     unfolding bfs
     bfs-levels = run-levels n 0 (s ∷ []) (omega arith) (served-first E n s h) levels-first
 
-    walk-reach : {k y : ℕ} → ReachIn (Edge E n) s k y → Reach (Edge E n) s y
-    walk-reach start = here
-    walk-reach (onward w e) = step (walk-reach w) e
-
     at-below : (i : ℕ) → i < length (bfs E n s) → getD (bfs E n s) i 0 < n
     at-below i l = below-memb n (bfs E n s) (bfs-below E n s h) (getD (bfs E n s) i 0) (memb-getD (bfs E n s) i l)
 
@@ -145,7 +155,7 @@ module _ (E : ℕ → ℕ → Bool) (n s : ℕ) where
         on-same i 0
         (λ o. (0, omega arith, subst (λ (p : ℕ). ReachIn (Edge E n) s 0 (getD (bfs E n s) p 0)) (sym o) to-first))
         (λ ne.
-        let a = memb-at y (bfs E n s) (bfs-complete E n s h y (walk-reach w)) in
+        let a = memb-at y (bfs E n s) (bfs-complete E n s h y (steps-reach (Edge E n) s w)) in
         let p = bfs-levels .earlier i j (a .0) (omega arith) b l (a .1) (ap₂ E (a .2) e ∙ r .2) in
         let u = bfs-by-steps w (p .0) (a .0) (p .1) (a .1) (a .2) in
         (suc (u .0), omega (arith, u .1), onward (u .2) (at-below (p .0) (omega (arith, p .1, a .1)), at-below i (omega arith), p .2)))

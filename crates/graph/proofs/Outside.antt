@@ -8,7 +8,8 @@ use native.Mathlib.Omega.{arith}
 use mir.Val.{boolByte}
 use lib.ListN.{length, getD, take}
 use borrow.Author.Tests.{ne-eqb}
-use Rattle.lists.specs.Lists.{memb, filter, Distinct, Below}
+use Rattle.lists.specs.Lists.{memb, filter, Distinct}
+use Rattle.lists.specs.Inner.{Below}
 use Rattle.lists.specs.Tests.{_and_, count, chosen}
 use Rattle.lists.proofs.Cases.{on, on-same, clash, and-false-right}
 use Rattle.lists.proofs.Chosen.{chosen-count, chosen-ext}

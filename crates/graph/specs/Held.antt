@@ -4,7 +4,8 @@ use mathlib.Core.Bool.{Bool, not}
 use mathlib.Core.List.{List}
 use Prim.Native.Nat.{ℕ, _-_, _<_}
 use lib.ListN.{length, getD, take}
-use Rattle.lists.specs.Lists.{memb, Distinct, Below}
+use Rattle.lists.specs.Lists.{memb, Distinct}
+use Rattle.lists.specs.Inner.{Below}
 use Rattle.lists.specs.Tests.{bit, chosen}
 
 -- m marks exactly what is in q

@@ -2,15 +2,16 @@
 ghost use mathlib.Core.Path.{_≡_};
 ghost use lib.ListN.{length};
 ghost use Rattle.layout.specs.Layout.{limit, size};
+ghost use Rattle.frames.specs.Frames.{headLength};
 ghost use Rattle.frames.specs.Put.{Put};
 ghost use Rattle.frames.specs.Reading.{headGood};
-ghost use Rattle.reader.specs.Lines.{Valued, Sealed};
+ghost use Rattle.reader.specs.Lines.{Valued, behind, Sealed};
 ghost use Rattle.reader.specs.Passes.{headWords};
 use put_read::put_word;
 use reader::number_at;
 use reader::short_at;
 use sealed::counts_fit;
-use sealed::is_frame;
+use sealed::frame_end;
 use sealed::stands_at;
 
 // The bytes of a head, with its last.
@@ -25,17 +26,22 @@ const VERTICES_DUE_AT: usize = 22;
 
 const HYPEREDGES_DUE_AT: usize = 26;
 
-// Line 1 is good.
-pub fn head_good(values: &[u16; 256], text: &[u8]) -> bool
+// The place behind line 1, where that is good; else 0.
+pub fn head_end(values: &[u16; 256], text: &[u8]) -> usize
     requires { ⌜ Valued (now values) ⌝ }
-    ensures { λ r. ⌜ r ≡ headGood (now (text .entry)) ⌝ }
+    ensures { λ r. ⌜ r ≡ behind (headGood (now (text .entry))) 0 headLength ⌝ }
 {
-    if !is_frame(values, text, 0, HEAD_BYTES) {
-        return false;
+    let end = frame_end(values, text, 0, HEAD_BYTES);
+    if end == 0 {
+        return 0;
     }
-    sealed_head_good(values, text)
+    if !sealed_head_good(values, text) {
+        return 0;
+    }
+    end
 }
 
+// Line 1, which is a frame, is good.
 fn sealed_head_good(values: &[u16; 256], text: &[u8]) -> bool
     requires { ⌜ Valued (now values) ⌝ }
     requires { ⌜ Sealed (now text) 0 16 ⌝ }

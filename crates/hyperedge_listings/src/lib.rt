@@ -1,7 +1,7 @@
 // Lists of hyperedges: by pair, by weight, by vertex.
 ghost use mathlib.Core.Path.{_≡_};
 ghost use Rattle.layout.specs.Layout.{limit, read};
-ghost use Rattle.layout.specs.WellFormed.{Formed};
+ghost use Rattle.layout.specs.Inner.{Formed};
 ghost use Rattle.layout.specs.Answers.{result, listed, onFormed};
 ghost use Rattle.lookups.specs.Lookups.{listing};
 ghost use Rattle.lookups.specs.Results.{listingResult, connectingResult, weighingResult, fullHyperedgesResult};

@@ -2,9 +2,10 @@
 ghost use mathlib.Core.Path.{_≡_};
 ghost use Prim.Native.Nat.{_<_, _≤_};
 ghost use lib.ListN.{length};
-ghost use Rattle.lists.specs.Lists.{over, Wrote};
+ghost use Rattle.lists.specs.Lists.{over};
+ghost use Rattle.lists.specs.Inner.{Wrote};
 ghost use Rattle.layout.specs.Layout.{limit, hyperedgeCount, hyperedgeAt, read};
-ghost use Rattle.layout.specs.WellFormed.{Formed};
+ghost use Rattle.layout.specs.Inner.{Formed};
 ghost use Rattle.layout.specs.Answers.{result, onFormed};
 ghost use Rattle.properties.specs.Properties.{pair, pairsOf, inclusions};
 ghost use Rattle.properties.specs.Results.{inclusionsResult};

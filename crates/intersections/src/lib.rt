@@ -6,7 +6,7 @@ ghost use lib.ListN.{length};
 ghost use Rattle.lists.specs.Tests.{_and_};
 ghost use Rattle.layout.specs.Content.{liveVertices, lists};
 ghost use Rattle.layout.specs.Layout.{limit, vertexLimit, hyperedgeCount, hyperedgeAt, read};
-ghost use Rattle.layout.specs.WellFormed.{Formed};
+ghost use Rattle.layout.specs.Inner.{Formed};
 ghost use Rattle.layout.specs.Answers.{result, onFormed};
 ghost use Rattle.lookups.specs.Lookups.{isShared};
 ghost use Rattle.lookups.specs.State.{someOf, with, noMarks, MarkedBy, KeptBy, Both};

@@ -16,8 +16,9 @@ use Rattle.layout.specs.declared.Answer.{Answer}
 use Rattle.layout.specs.declared.Answer.the-variants.{Done, NotWellFormed, NoMembers, VertexNotLive, HyperedgeNotLive, SameMembers, TooManyMembers, Full, NumbersSpent, ClosedWalk, TooFewHyperedges, NoRoom, BadText}
 use Rattle.layout.specs.Content.{Table, position, isLive}
 use Rattle.layout.specs.Layout.{limit, size, read}
-use Rattle.layout.specs.WellFormed.{wellFormed, Formed}
-use Rattle.layout.specs.Answers.{number, detail, Result, result, onFormed, firstMissing, firstMissingFrom, onLive, listed}
+use Rattle.layout.specs.WellFormed.{wellFormed}
+use Rattle.layout.specs.Inner.{Formed, firstMissing, firstMissingFrom}
+use Rattle.layout.specs.Answers.{number, detail, Result, result, onFormed, onLive, listed}
 use Rattle.layout.proofs.Position.{found-live, missing-dead}
 use Rattle.layout.proofs.Read.{formed-of}
 

@@ -19,7 +19,8 @@ use Rattle.lists.proofs.Parts.{part-at, part-tail}
 use Rattle.lists.proofs.Flat.{zero-end, flat-length, flat-at, tab-getD, length-pad, zeros-part-of}
 use Rattle.layout.specs.Content.{Hyperedge, noVertex, noHyperedge, Table}
 use Rattle.layout.specs.Layout.{vertexLimit, hyperedgeLimit, vertexSize, recordSize, verticesAt, hyperedgesAt, size, vertexWord, hyperedgeWord, hyperedgeCount, vertexAt, countAt, membersAt, hyperedgeAt, readVertices, readHyperedges, read, vertexWords, hyperedgeWords, words}
-use Rattle.layout.specs.WellFormed.{recordShaped, unusedVertices, unusedHyperedges, wellFormed, countFits, holdable, Shaped}
+use Rattle.layout.specs.WellFormed.{recordShaped, unusedVertices, unusedHyperedges, wellFormed, countFits, holdable}
+use Rattle.layout.specs.Inner.{Shaped}
 use Rattle.layout.proofs.Shape.{shaped-of, shaped-by, count-le, count-pos}
 use Rattle.layout.proofs.Words.{words-read}
 use Rattle.layout.proofs.Holdable.{Holdable, holdable-of, members-le, members-pos}

@@ -16,7 +16,7 @@ use Rattle.lists.proofs.Ascend.{dense-at, ascending-apart}
 use Rattle.layout.specs.declared.Found.{Found}
 use Rattle.layout.specs.declared.Found.the-variants.{At, Nothing}
 use Rattle.layout.specs.Content.{position, positionFrom, isLive}
-use Rattle.layout.specs.Answers.{firstMissingFrom}
+use Rattle.layout.specs.Inner.{firstMissingFrom}
 
 -- ---- from the list to the place
 

@@ -15,7 +15,8 @@ use Rattle.layout.specs.declared.Found.{Found}
 use Rattle.layout.specs.declared.Found.the-variants.{At, Nothing}
 use Rattle.layout.specs.Content.{vertexNumber, hyperedgeNumber, liveVertices, liveHyperedges, numbered, valid, position}
 use Rattle.layout.specs.Layout.{vertexSize, recordSize, verticesAt, hyperedgesAt, vertexWord, hyperedgeWord, nextVertexIn, vertexCount, hyperedgeCount, vertexAt, hyperedgeAt, membersAt, read}
-use Rattle.layout.specs.WellFormed.{wellFormed, column, vertexColumn, hyperedgeColumn, Formed}
+use Rattle.layout.specs.WellFormed.{wellFormed}
+use Rattle.layout.specs.Inner.{column, vertexColumn, hyperedgeColumn, Formed}
 use Rattle.layout.proofs.Position.{position-found, dense-found, dense-none}
 use Rattle.layout.proofs.Shape.{shaped-of, count-le}
 

@@ -10,7 +10,8 @@ use Rattle.lists.specs.Lists.{zeros}
 use Rattle.lists.proofs.Cases.{and-left, and-right}
 use Rattle.lists.proofs.Every.{every-at}
 use Rattle.layout.specs.Layout.{hyperedgeWord, countAt}
-use Rattle.layout.specs.WellFormed.{recordShaped, shaped, Shaped}
+use Rattle.layout.specs.WellFormed.{recordShaped, shaped}
+use Rattle.layout.specs.Inner.{Shaped}
 
 pub shaped-of : (L : ℕ) (ws : List ℕ) → shaped L ws ≡ true → Shaped L ws
 unfolding shaped

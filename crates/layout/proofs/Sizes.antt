@@ -1,4 +1,4 @@
--- The layout's numbers at the member limit, as the paper has them. Assumes nothing.
+-- The layout's numbers at the member limit, as the rules have them. Assumes nothing.
 use mathlib.Core.Path.{_≡_, refl}
 use Rattle.layout.specs.Layout.{limit, recordSize, hyperedgesAt, size}
 

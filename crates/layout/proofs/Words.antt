@@ -14,7 +14,8 @@ use Rattle.lists.proofs.Parts.{part-tail, part-words}
 use Rattle.lists.proofs.Flat.{flat-tab, pad-front}
 use Rattle.layout.specs.Content.{Table}
 use Rattle.layout.specs.Layout.{vertexLimit, hyperedgeLimit, vertexSize, recordSize, verticesAt, hyperedgesAt, size, vertexWord, hyperedgeWord, nextVertexIn, nextHyperedgeIn, vertexCount, hyperedgeCount, vertexAt, countAt, membersAt, hyperedgeAt, readVertices, readHyperedges, read, vertexWords, hyperedgeWords, words}
-use Rattle.layout.specs.WellFormed.{unusedVertices, unusedHyperedges, Shaped}
+use Rattle.layout.specs.WellFormed.{unusedVertices, unusedHyperedges}
+use Rattle.layout.specs.Inner.{Shaped}
 use Rattle.layout.proofs.Shape.{count-le, count-rest}
 
 module _ (L : ℕ) (ws : List ℕ) where

@@ -1,12 +1,10 @@
--- The paper's number and detail of each answer, and the refusals that many entry points share. Assumes nothing.
-use mathlib.Core.Bool.{cond}
+-- The rules' number and detail of each answer, and the refusals that many entry points share. Assumes nothing.
+use mathlib.Core.Bool.{Bool, cond}
 use mathlib.Core.List.{List, [], _∷_}
-use Prim.Native.Nat.{ℕ, zero, suc}
+use Prim.Native.Nat.{ℕ}
 use lib.Dec.{leb}
 use lib.ListN.{length}
 use Rattle.lists.specs.Lists.{over}
-use Rattle.layout.specs.declared.Found.{Found}
-use Rattle.layout.specs.declared.Found.the-variants.{At, Nothing}
 use Rattle.layout.specs.declared.Answer.{Answer}
 use Rattle.layout.specs.declared.Answer.the-variants.{Done, NotWellFormed, NoMembers, VertexNotLive, HyperedgeNotLive, SameMembers, TooManyMembers, Full, NumbersSpent, ClosedWalk, TooFewHyperedges, NoRoom, BadText}
 use Rattle.layout.specs.Content.{Table, liveVertices, liveHyperedges, isLive}
@@ -59,14 +57,6 @@ result a lent = record { number = number a; detail = detail a; lent = lent }
 unfoldable pub onFormed : List ℕ → List ℕ → (Table → Result) → Result
 onFormed ws lent f = cond (wellFormed limit ws) (f (read limit ws)) (result NotWellFormed lent)
 
--- the place of the first of the list that is not live, counted from i
-unfoldable pub firstMissingFrom : ℕ → List ℕ → List ℕ → Found
-firstMissingFrom i live [] = Nothing
-firstMissingFrom i live (x ∷ xs) = cond (isLive live x) (firstMissingFrom (suc i) live xs) (At i)
-
-unfoldable pub firstMissing : List ℕ → List ℕ → Found
-firstMissing live xs = firstMissingFrom zero live xs
-
 -- each of the list is live, or the refusal names the first missing one
 unfoldable pub onLive : List ℕ → (ℕ → Answer) → List ℕ → List ℕ → Result → Result
 onLive live refusal [] lent r = r
@@ -96,5 +86,8 @@ abbrev pub onLiveHyperedge : Table → ℕ → List ℕ → Result → Result
 onLiveHyperedge t e lent r = onLiveHyperedges t (e ∷ []) lent r
 
 -- a listing, from the front of the lent slice, which keeps the rest; 11 where it is longer than the slice
+abbrev pub fits : List ℕ → List ℕ → Bool
+fits xs lent = leb (length xs) (length lent)
+
 unfoldable pub listed : List ℕ → List ℕ → Result
-listed xs lent = cond (leb (length xs) (length lent)) (result (Done (length xs)) (over xs lent)) (result (NoRoom (length xs)) lent)
+listed xs lent = cond (fits xs lent) (result (Done (length xs)) (over xs lent)) (result (NoRoom (length xs)) lent)

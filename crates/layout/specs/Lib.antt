@@ -3,3 +3,4 @@ pub mod Layout
 pub mod WellFormed
 pub mod Answers
 pub mod Steps
+pub mod Inner

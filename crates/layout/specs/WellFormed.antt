@@ -1,14 +1,13 @@
 -- Which lists of words are a table, over the member limit L. Assumes nothing.
-use mathlib.Core.Path.{_≡_}
-use mathlib.Core.Bool.{Bool, true}
+use mathlib.Core.Bool.{Bool}
 use mathlib.Core.List.{List}
-use Prim.Native.Nat.{ℕ, _+_, _*_, _-_, _≤_, _<_}
+use Prim.Native.Nat.{ℕ, _+_, _-_}
 use lib.Dec.{leb, ltb, eqb}
-use lib.ListN.{length, getD, take, drop}
+use lib.ListN.{length, take, drop}
 use Rattle.lists.specs.Tests.{_and_, every}
-use Rattle.lists.specs.Lists.{all, zeros, tab, Ascending}
+use Rattle.lists.specs.Lists.{all, zeros}
 use Rattle.layout.specs.Content.{Hyperedge, Table, valid}
-use Rattle.layout.specs.Layout.{vertexLimit, hyperedgeLimit, vertexSize, recordSize, verticesAt, hyperedgesAt, size, vertexWord, hyperedgeWord, nextVertexIn, vertexCount, hyperedgeCount, countAt, read}
+use Rattle.layout.specs.Layout.{vertexLimit, hyperedgeLimit, hyperedgesAt, size, vertexWord, hyperedgeWord, vertexCount, hyperedgeCount, countAt, read}
 
 -- a used hyperedge record: count (1 to L), and every word after the members is 0
 unfoldable pub recordShaped : ℕ → List ℕ → ℕ → Bool
@@ -51,34 +50,3 @@ holdable L t =
     and leb (length (t .hyperedges)) hyperedgeLimit
     and all (countFits L) (t .hyperedges)
     and valid t
-
--- ---- what the tests say, for those who work on the words
-
--- what `shaped` says, part by part
-pub record Shaped (L : ℕ) (ws : List ℕ) : Type 0 where
-  pub sized : length ws ≡ size L
-  pub vertices-le : vertexCount ws ≤ vertexLimit
-  pub hyperedges-le : hyperedgeCount ws ≤ hyperedgeLimit
-  pub vertices-rest : unusedVertices ws ≡ true
-  pub hyperedges-rest : unusedHyperedges L ws ≡ true
-  pub records : every (recordShaped L ws) (hyperedgeCount ws) ≡ true
-
--- the words at base, base + step, .., n of them
-abbrev pub column : List ℕ → ℕ → ℕ → ℕ → List ℕ
-column ws base step n = tab (λ i. getD ws (base + i * step) 0) n
-
--- the numbers of the live vertices, and of the live hyperedges, as they stand in the words
-abbrev pub vertexColumn : List ℕ → List ℕ
-vertexColumn ws = column ws verticesAt vertexSize (vertexCount ws)
-
-abbrev pub hyperedgeColumn : ℕ → List ℕ → List ℕ
-hyperedgeColumn L ws = column ws hyperedgesAt (recordSize L) (hyperedgeCount ws)
-
--- what `wellFormed` says, part by part
-pub record Formed (L : ℕ) (ws : List ℕ) : Type 0 where
-  pub shape : Shaped L ws
-  pub counts : (j : ℕ) → j < hyperedgeCount ws → countAt L ws j ≤ L
-  pub vertices-ascend : Ascending (vertexColumn ws)
-  pub hyperedges-ascend : Ascending (hyperedgeColumn L ws)
-  pub vertices-below : (i : ℕ) → i < vertexCount ws → getD ws (vertexWord i) 0 < nextVertexIn ws
-  pub content : valid (read L ws) ≡ true

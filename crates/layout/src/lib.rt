@@ -3,7 +3,7 @@ ghost use mathlib.Core.Path.{_≡_};
 ghost use Prim.Native.Nat.{_<_, _≤_};
 ghost use lib.ListN.{length};
 ghost use Rattle.layout.specs.Layout.{limit, vertexLimit, hyperedgeLimit, size, nextVertexIn, nextHyperedgeIn, vertexCount, hyperedgeCount, vertexAt, hyperedgeAt, countAt, membersAt};
-ghost use Rattle.layout.specs.WellFormed.{Formed};
+ghost use Rattle.layout.specs.Inner.{Formed};
 ghost use Rattle.layout.specs.Answers.{number, detail};
 
 // The limits.
@@ -48,7 +48,7 @@ pub enum Answer {
     BadText(usize),
 }
 
-// The paper's number and detail of an answer.
+// The rules' number and detail of an answer.
 #[repr(C)]
 pub struct Reply {
     pub number: u32,

@@ -33,7 +33,7 @@ fn add_vertices(t: &mut [u32]) {
 // Adds the lists 0, 0 and 0, 1 and so on, of weight 5, until 192 hyperedges are live.
 fn add_hyperedges(t: &mut [u32]) {
     let mut j: u32 = 0;
-    while j < 192 {
+    while j < layout::HYPEREDGE_LIMIT as u32 {
         let list = [0, j];
         add_hyperedge(t, &list, 5);
         j += 1;
@@ -41,7 +41,7 @@ fn add_hyperedges(t: &mut [u32]) {
 }
 
 fn vertices() {
-    let mut t = [0u32; 7236];
+    let mut t = [0u32; layout::SIZE];
     say(b"empty table, empty", is_empty(&t));
     say(b"first vertex", add_vertex(&mut t, 7));
     say(b"one vertex, empty", is_empty(&t));
@@ -50,9 +50,9 @@ fn vertices() {
 }
 
 fn lists() {
-    let mut t = [0u32; 7236];
-    let longest = [3u32; 32];
-    let longer = [3u32; 33];
+    let mut t = [0u32; layout::SIZE];
+    let longest = [3u32; layout::MEMBER_LIMIT];
+    let longer = [3u32; layout::MEMBER_LIMIT + 1];
     let unknown = [3u32, 256, 257];
     add_vertices(&mut t);
     say(b"33 members", add_hyperedge(&mut t, &longer, 5));
@@ -69,7 +69,7 @@ fn lists() {
 }
 
 fn hyperedges() {
-    let mut t = [0u32; 7236];
+    let mut t = [0u32; layout::SIZE];
     let last = [0u32, 191];
     let further = [1u32, 2];
     add_vertices(&mut t);
@@ -86,7 +86,7 @@ fn hyperedges() {
 }
 
 fn updates() {
-    let mut t = [0u32; 7236];
+    let mut t = [0u32; layout::SIZE];
     let first = [0u32, 0];
     let further = [1u32, 2];
     add_vertices(&mut t);
@@ -111,7 +111,7 @@ fn updates() {
 }
 
 fn removals() {
-    let mut t = [0u32; 7236];
+    let mut t = [0u32; layout::SIZE];
     let alone = [3u32, 3];
     add_vertices(&mut t);
     say(b"list 3, 3", add_hyperedge(&mut t, &alone, 5));
@@ -129,7 +129,7 @@ fn removals() {
 
 // The next number of each kind at its end.
 fn numbers_spent() {
-    let mut t = [0u32; 7236];
+    let mut t = [0u32; layout::SIZE];
     let only = [4294967294u32];
     t[0] = 4294967294;
     t[1] = 4294967294;
@@ -141,15 +141,15 @@ fn numbers_spent() {
 }
 
 fn not_formed() {
-    let mut t = [0u32; 7236];
-    t[7235] = 1;
+    let mut t = [0u32; layout::SIZE];
+    t[layout::SIZE - 1] = 1;
     say(b"last word not 0, vertex", add_vertex(&mut t, 7));
     say(b"last word not 0, clear", clear(&mut t));
     say(b"cleared, vertex", add_vertex(&mut t, 7));
 }
 
 fn short() {
-    let mut t = [0u32; 7235];
+    let mut t = [0u32; layout::SIZE - 1];
     say(b"a word short, clear", clear(&mut t));
     say(b"a word short, vertex", add_vertex(&mut t, 7));
 }

@@ -1,18 +1,20 @@
 -- Laws of strictly ascending lists, and the test that a loop makes of them. Assumes nothing.
-use mathlib.Core.Path.{_≡_, refl, ap}
+use mathlib.Core.Path.{_≡_, refl, sym, ap, subst}
 use mathlib.Core.Bool.{Bool, true, false}
+use mathlib.Core.Logic.{⊎-elim}
 use mathlib.Core.List.{List, [], _∷_}
 use Prim.Native.Nat.{ℕ, zero, suc, _+_, _-_, _≤_, _<_, suc-le-suc}
-use native.Mathlib.Nat.{not-suc-le-zero, le-of-suc-le-suc, zero-lt-suc}
+use native.Mathlib.Nat.{not-suc-le-zero, le-of-suc-le-suc, zero-lt-suc, lt-irrefl}
 use native.Mathlib.Numerals.{add-one}
 use native.Mathlib.Omega.{arith}
-use lib.Dec.{leb, ltb}
+use lib.Dec.{eqb, leb, ltb}
 use lib.ListN.{length, getD, drop, drop-of-length-le}
-use borrow.Author.Tests.{leb-true, ltb-true, le-leb, lt-leb, lt-ltb, le-ltb}
+use borrow.Author.Tests.{eqb-true, leb-true, ltb-true, le-leb, lt-leb, lt-ltb, le-ltb}
 use Rattle.lists.specs.Tests.{_and_}
-use Rattle.lists.specs.Lists.{all, ascending, Ascending, isBelow, tab}
-use Rattle.lists.proofs.Cases.{and-left, and-right, and-both, on-below, test-ext}
+use Rattle.lists.specs.Lists.{all, memb, ascending, Ascending, isBelow, tab}
+use Rattle.lists.proofs.Cases.{clash, and-left, and-right, and-both, or-true, or-right, on-below, test-ext}
 use Rattle.lists.proofs.All.{all-at, all-of}
+use Rattle.lists.proofs.Memb.{memb-self, memb-at}
 use Rattle.lists.proofs.Tab.{drop-tab, length-tab}
 
 pub ascending-at : (xs : List ℕ) → ascending xs ≡ true → Ascending xs
@@ -50,6 +52,39 @@ module _ (xs : List ℕ) (asc : Ascending xs) where
       let last : ℕ = length xs - suc i in
       let e : 0 + i ≡ i = omega arith in
       omega (arith, gap 0 i (omega arith), ap (λ (k : ℕ). getD xs k 0) e, gap i last (omega arith), below (i + last) (omega arith))
+
+-- ---- two ascending lists with the same members are one
+
+ascending-tail : (x : ℕ) (xs : List ℕ) → Ascending (x ∷ xs) → Ascending xs
+ascending-tail x xs a i j l k = a (suc i) (suc j) (suc-le-suc l) (suc-le-suc k)
+
+head-below : (x : ℕ) (xs : List ℕ) → Ascending (x ∷ xs) → (z : ℕ) → memb z xs ≡ true → x < z
+head-below x xs a z e =
+    let i = memb-at z xs e in
+    subst (λ (y : ℕ). x < y) (i .2) (a zero (suc (i .0)) (zero-lt-suc (i .0)) (suc-le-suc (i .1)))
+
+-- what is behind the head of the one is behind the head of the other
+tail-memb : (x y : ℕ) (xs ys : List ℕ) → x ≡ y → Ascending (x ∷ xs) → ((z : ℕ) → memb z (x ∷ xs) ≡ true → memb z (y ∷ ys) ≡ true) → (z : ℕ) → memb z xs ≡ true → memb z ys ≡ true
+tail-memb x y xs ys s a h z e =
+    ⊎-elim
+    (λ p. absurd (lt-irrefl x (omega (arith, s, eqb-true z y p, head-below x xs a z e))))
+    (λ p. p)
+    (or-true (eqb z y) (memb z ys) (h z (or-right (eqb z x) (memb z xs) e)))
+
+pub ascending-same : (xs ys : List ℕ) → Ascending xs → Ascending ys → ((z : ℕ) → memb z xs ≡ true → memb z ys ≡ true) → ((z : ℕ) → memb z ys ≡ true → memb z xs ≡ true) → xs ≡ ys
+ascending-same [] [] a b f g = refl
+ascending-same [] (y ∷ ys) a b f g = clash (g y (memb-self y ys)) refl
+ascending-same (x ∷ xs) [] a b f g = clash (f x (memb-self x xs)) refl
+ascending-same (x ∷ xs) (y ∷ ys) a b f g =
+    let s : x ≡ y =
+    ⊎-elim
+    (λ p. eqb-true x y p)
+    (λ p. ⊎-elim
+    (λ q. sym (eqb-true y x q))
+    (λ q. absurd (lt-irrefl x (omega (arith, head-below y ys b x p, head-below x xs a y q))))
+    (or-true (eqb y x) (memb y xs) (g y (memb-self y ys))))
+    (or-true (eqb x y) (memb x ys) (f x (memb-self x xs))) in
+    rw (s, ascending-same xs ys (ascending-tail x xs a) (ascending-tail y ys b) (tail-memb x y xs ys s a f) (tail-memb y x ys xs (sym s) b g))
 
 -- ---- the test that a loop makes: strictly ascending, each at least low and below high
 

@@ -9,7 +9,8 @@ use native.Mathlib.Omega.{arith}
 use lib.Dec.{eqb}
 use lib.ListN.{length, getD}
 use borrow.Author.Tests.{eqb-true, eqb-false, eq-eqb, ne-eqb}
-use Rattle.lists.specs.Lists.{any, memb, Distinct, Below}
+use Rattle.lists.specs.Lists.{any, memb, Distinct}
+use Rattle.lists.specs.Inner.{Below}
 use Rattle.lists.proofs.Cases.{eq-or-ne, clash, or-true, or-false, or-right, or-false-left, or-false-right}
 
 pub any-memb : (x : ℕ) (ys : List ℕ) → any (eqb x) ys ≡ memb x ys

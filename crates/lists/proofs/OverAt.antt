@@ -6,7 +6,8 @@ use native.Mathlib.Numerals.{add-one}
 use native.Mathlib.Omega.{arith}
 use lib.ListN.{length, getD, set, take, drop, length-append, length-drop, take-append-drop, List·getD-append}
 use lib.Seq.{take-append-add, drop-append-add, getD-append-add, drop-drop, set-split, set-getD, length-take-le, getD-take, getD-drop}
-use Rattle.lists.specs.Lists.{over, overAt}
+use Rattle.lists.specs.Lists.{over}
+use Rattle.lists.specs.Inner.{overAt}
 use Rattle.lists.proofs.Chosen.{over-none, over-part, over-length}
 
 pub over-at-none : (a : ℕ) (ws : List ℕ) → overAt a [] ws ≡ ws

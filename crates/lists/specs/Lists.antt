@@ -4,7 +4,7 @@ use mathlib.Core.Bool.{Bool, true, false, cond, not, _||_}
 use mathlib.Core.List.{List, [], _∷_, _++_}
 use Prim.Native.Nat.{ℕ, zero, suc, _+_, _-_, _<_}
 use lib.Dec.{eqb, ltb}
-use lib.ListN.{length, getD, take, drop, replicate}
+use lib.ListN.{length, getD, drop, replicate}
 use Rattle.lists.specs.Tests.{_and_}
 
 -- the test passes at every element
@@ -82,11 +82,6 @@ abbrev pub Distinct : List ℕ → Type 0
 Distinct [] = Unit {0}
 Distinct (x ∷ xs) = (memb x xs ≡ false) × Distinct xs
 
--- every number below n
-abbrev pub Below : ℕ → List ℕ → Type 0
-Below n [] = Unit {0}
-Below n (x ∷ xs) = (x < n) × Below n xs
-
 -- f 0, f 1, .., f (n - 1)
 unfoldable pub tab : {A : Type 0} → (ℕ → A) → ℕ → List A
 tab f zero = []
@@ -105,10 +100,6 @@ flat f (x ∷ xs) = f x ++ flat f xs
 abbrev pub counted : List ℕ → List ℕ
 counted xs = length xs ∷ xs
 
--- k words of 0
-unfoldable pub blank : ℕ → List ℕ
-blank k = replicate k 0
-
 -- 0 after xs, up to n words
 abbrev pub pad : ℕ → List ℕ → List ℕ
 pad n xs = xs ++ replicate (n - length xs) 0
@@ -116,16 +107,3 @@ pad n xs = xs ++ replicate (n - length xs) 0
 -- w written from the front of d, which keeps the rest
 unfoldable pub over : List ℕ → List ℕ → List ℕ
 over w d = w ++ drop (length w) d
-
--- w written over the words from a on; the others are kept
-unfoldable pub overAt : ℕ → List ℕ → List ℕ → List ℕ
-overAt a w d = take a d ++ over w (drop a d)
-
--- xs is written from the front of what was lent, and k is how many words that is
-pub record Wrote (xs lent : List ℕ) (k : ℕ) (exit : List ℕ) : Type 0 where
-  pub words : k ≡ length xs
-  pub wrote : exit ≡ over xs lent
-
--- the k words from a on are gone, what is behind them moves down, and k words of 0 come last
-unfoldable pub shifted : List ℕ → ℕ → ℕ → List ℕ
-shifted ws a k = take a ws ++ (drop (a + k) ws ++ replicate k 0)

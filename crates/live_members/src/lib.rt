@@ -7,7 +7,8 @@ ghost use Rattle.lists.specs.Tests.{every};
 ghost use Rattle.lists.specs.Lists.{Ascending};
 ghost use Rattle.layout.specs.Content.{isLive};
 ghost use Rattle.layout.specs.Layout.{limit, vertexLimit, hyperedgeLimit, vertexSize, verticesAt, size, countAt};
-ghost use Rattle.layout.specs.WellFormed.{recordShaped, column};
+ghost use Rattle.layout.specs.WellFormed.{recordShaped};
+ghost use Rattle.layout.specs.Inner.{column};
 ghost use Rattle.formed.specs.Records.{recordLive};
 use layout::Found;
 

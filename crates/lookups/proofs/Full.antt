@@ -21,14 +21,17 @@ use Rattle.layout.specs.declared.Found.the-variants.{At, Nothing}
 use Rattle.layout.specs.declared.Answer.the-variants.{Done, NoRoom}
 use Rattle.layout.specs.Content.{Hyperedge, Table, liveVertices, position}
 use Rattle.layout.specs.Layout.{limit, vertexLimit, vertexCount, read}
-use Rattle.layout.specs.WellFormed.{Formed}
+use Rattle.layout.specs.Inner.{Formed}
 use Rattle.layout.specs.Answers.{result, listed}
 use Rattle.layout.specs.Steps.{stepsOf, isStep, makesStep}
 use Rattle.layout.proofs.Answers.{listed-over, listed-fits}
 use Rattle.layout.proofs.Position.{position-found, position-missing}
 use Rattle.layout.proofs.Read.{live-length}
+use Rattle.lookups.specs.declared.Direction.{Direction}
+use Rattle.lookups.specs.declared.Direction.the-variants.{From, To}
+use Rattle.lookups.specs.declared.Relation.the-variants.{Along}
 use Rattle.lookups.specs.declared.Listing.the-variants.{Connecting}
-use Rattle.lookups.specs.Lookups.{relates, isRelated, related, places, placesIn, block, listing, connecting, adjacentEntry, adjacency, fullAdjacent}
+use Rattle.lookups.specs.Lookups.{relates, isRelated, related, places, placesIn, block, listing, connecting, adjacentEntry, fullAdjacent}
 use Rattle.lookups.specs.State.{listingMost, nothing, tallying, Tallied, wordsFor, headFor, start, heading, Beyond, Headed, fullWords, offset, placing, Filling}
 use Rattle.lookups.proofs.Shared.{live-fit}
 use Rattle.lookups.proofs.Tally.{connecting-most, tallied-most}
@@ -449,10 +452,10 @@ any-connecting x y (e ∷ es) =
     ∙ ap (λ (k : ℕ). not (eqb k 0)) (sym (length-append (replicate n (e .number)) (flat (block (Connecting x y)) es)))
 
 -- adjacent are the vertices that some hyperedge connects
-adjacent-is : (arriving : Bool) (t : Table) (v y : ℕ) → isRelated (adjacency arriving) t v y ≡ not (eqb (length (connecting arriving t v y)) 0)
+adjacent-is : (dir : Direction) (t : Table) (v y : ℕ) → isRelated (Along dir) t v y ≡ not (eqb (length (connecting dir t v y)) 0)
 unfolding isRelated relates connecting listing
-adjacent-is false t v y = any-connecting v y (t .hyperedges)
-adjacent-is true t v y = any-connecting y v (t .hyperedges)
+adjacent-is From t v y = any-connecting v y (t .hyperedges)
+adjacent-is To t v y = any-connecting y v (t .hyperedges)
 
 flat-filter : (f g : ℕ → List ℕ) (p : ℕ → Bool) (xs : List ℕ) → ((x : ℕ) → g x ≡ cond (p x) (f x) []) → flat g xs ≡ flat f (filter p xs)
 unfolding flat filter
@@ -461,23 +464,23 @@ flat-filter f g p (x ∷ xs) h = on (p x)
     (λ e. rw (h x, e) (ap (λ (r : List ℕ). f x ++ r) (flat-filter f g p xs h)))
     (λ e. rw (h x, e) (flat-filter f g p xs h))
 
-pub full-is : (arriving : Bool) (t : Table) (v : ℕ) → flat (fullWords (connecting arriving t v)) (liveVertices t) ≡ fullAdjacent arriving v t
+pub full-is : (dir : Direction) (t : Table) (v : ℕ) → flat (fullWords (connecting dir t v)) (liveVertices t) ≡ fullAdjacent dir v t
 unfolding fullAdjacent related fullWords adjacentEntry
-full-is arriving t v = flat-filter (adjacentEntry arriving t v) (fullWords (connecting arriving t v)) (isRelated (adjacency arriving) t v) (liveVertices t) each
+full-is dir t v = flat-filter (adjacentEntry dir t v) (fullWords (connecting dir t v)) (isRelated (Along dir) t v) (liveVertices t) each
   where
     turn : (b : Bool) (xs ys : List ℕ) → cond b xs ys ≡ cond (not b) ys xs
     turn true xs ys = refl
     turn false xs ys = refl
 
-    each : (y : ℕ) → fullWords (connecting arriving t v) y ≡ cond (isRelated (adjacency arriving) t v y) (adjacentEntry arriving t v y) []
+    each : (y : ℕ) → fullWords (connecting dir t v) y ≡ cond (isRelated (Along dir) t v y) (adjacentEntry dir t v y) []
     each y =
-        turn (eqb (length (connecting arriving t v y)) 0) [] (y ∷ length (connecting arriving t v y) ∷ connecting arriving t v y)
-        ∙ ap (λ (b : Bool). cond b (y ∷ length (connecting arriving t v y) ∷ connecting arriving t v y) []) (sym (adjacent-is arriving t v y))
+        turn (eqb (length (connecting dir t v y)) 0) [] (y ∷ length (connecting dir t v y) ∷ connecting dir t v y)
+        ∙ ap (λ (b : Bool). cond b (y ∷ length (connecting dir t v y) ∷ connecting dir t v y) []) (sym (adjacent-is dir t v y))
 
 -- ---- the listing: n is what `vertex_count` found, counts what `tally_places` left, c what `words_needed` found
 
-module _ (arriving : Bool) (v : ℕ) (ws : List ℕ) (f : Formed limit ws) (n : ℕ) (e : n ≡ vertexCount ws) (counts : List ℕ)
-    (t : Tallied (liveVertices (read limit ws)) (connecting arriving (read limit ws) v) nothing counts) where
+module _ (dir : Direction) (v : ℕ) (ws : List ℕ) (f : Formed limit ws) (n : ℕ) (e : n ≡ vertexCount ws) (counts : List ℕ)
+    (t : Tallied (liveVertices (read limit ws)) (connecting dir (read limit ws) v) nothing counts) where
   live-is : n ≡ length (liveVertices (read limit ws))
   live-is = e ∙ sym (live-length limit ws)
 
@@ -485,31 +488,31 @@ module _ (arriving : Bool) (v : ℕ) (ws : List ℕ) (f : Formed limit ws) (n : 
   full-few = omega (arith, f .shape .vertices-le)
 
   pub full-most : (k : ℕ) → k < n → getD counts k 0 ≤ listingMost
-  full-most k h = tallied-most t listingMost (λ y. connecting-most ws arriving v y f) k (omega (arith, live-is))
+  full-most k h = tallied-most t listingMost (λ y. connecting-most ws dir v y f) k (omega (arith, live-is))
 
-  full-words : start counts n ≡ length (fullAdjacent arriving v (read limit ws))
+  full-words : start counts n ≡ length (fullAdjacent dir v (read limit ws))
   full-words =
       ap (start counts) live-is ∙ start-is t (live-fit limit ws f) (length (liveVertices (read limit ws))) (omega arith)
-      ∙ offset-all (liveVertices (read limit ws)) (connecting arriving (read limit ws) v) ∙ ap length (full-is arriving (read limit ws) v)
+      ∙ offset-all (liveVertices (read limit ws)) (connecting dir (read limit ws) v) ∙ ap length (full-is dir (read limit ws) v)
 
   module _ (c : ℕ) (q : c ≡ start counts n) (out : List ℕ) where
-    pub full-over : length out < c → result (NoRoom c) out ≡ listed (fullAdjacent arriving v (read limit ws)) out
-    full-over h = listed-over (fullAdjacent arriving v (read limit ws)) out c (q ∙ full-words) h
+    pub full-over : length out < c → result (NoRoom c) out ≡ listed (fullAdjacent dir v (read limit ws)) out
+    full-over h = listed-over (fullAdjacent dir v (read limit ws)) out c (q ∙ full-words) h
 
     pub full-room : c ≤ length out → start counts n ≤ length out
     full-room h = omega arith
 
     -- nexts and heads are what `write_heads` left, nexts′ and exit what `fill` left
     pub full-ready : (nexts heads : List ℕ) → c ≤ length out → Headed (liveVertices (read limit ws)) counts out n nexts heads
-        → Filling (liveVertices (read limit ws)) (connecting arriving (read limit ws) v) (connecting arriving (read limit ws) v) nexts heads
+        → Filling (liveVertices (read limit ws)) (connecting dir (read limit ws) v) (connecting dir (read limit ws) v) nexts heads
     full-ready nexts heads h d = headed-filling t (live-fit limit ws f) (rw live-is at d) (omega (arith, ap (start counts) live-is))
 
     pub full-done : (nexts heads nexts′ exit : List ℕ) → c ≤ length out → Headed (liveVertices (read limit ws)) counts out n nexts heads
-        → Filling (liveVertices (read limit ws)) (connecting arriving (read limit ws) v) nothing nexts′ exit
-        → Beyond (offset (liveVertices (read limit ws)) (connecting arriving (read limit ws) v) (length (liveVertices (read limit ws)))) heads exit
-        → result (Done c) exit ≡ listed (fullAdjacent arriving v (read limit ws)) out
+        → Filling (liveVertices (read limit ws)) (connecting dir (read limit ws) v) nothing nexts′ exit
+        → Beyond (offset (liveVertices (read limit ws)) (connecting dir (read limit ws) v) (length (liveVertices (read limit ws)))) heads exit
+        → result (Done c) exit ≡ listed (fullAdjacent dir v (read limit ws)) out
     full-done nexts heads nexts′ exit h d g b =
-        let total : start counts n ≡ offset (liveVertices (read limit ws)) (connecting arriving (read limit ws) v) (length (liveVertices (read limit ws))) =
+        let total : start counts n ≡ offset (liveVertices (read limit ws)) (connecting dir (read limit ws) v) (length (liveVertices (read limit ws))) =
         ap (start counts) live-is ∙ start-is t (live-fit limit ws f) (length (liveVertices (read limit ws))) (omega arith) in
-        listed-fits (fullAdjacent arriving v (read limit ws)) out c (q ∙ full-words) exit h
-        (filling-end g (beyond-then (rw total at (d .kept)) b) ∙ ap (λ (xs : List ℕ). over xs out) (full-is arriving (read limit ws) v))
+        listed-fits (fullAdjacent dir v (read limit ws)) out c (q ∙ full-words) exit h
+        (filling-end g (beyond-then (rw total at (d .kept)) b) ∙ ap (λ (xs : List ℕ). over xs out) (full-is dir (read limit ws) v))

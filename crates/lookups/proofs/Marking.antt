@@ -10,22 +10,25 @@ use lib.ListN.{length, getD, drop, length-set, drop-of-length-le, length-replica
 use lib.Seq.{drop-cons}
 use borrow.Author.Tests.{eq-eqb, ne-eqb}
 use Rattle.lists.specs.Tests.{_and_}
-use Rattle.lists.specs.Lists.{any, memb, filter, facing}
+use Rattle.lists.specs.Lists.{any, memb, filter}
 use Rattle.lists.proofs.Cases.{on-same, or-false, and-true, and-false-left, and-false-right, eqb-comm}
 use Rattle.layout.specs.declared.Found.{Found}
 use Rattle.layout.specs.declared.Found.the-variants.{At, Nothing}
 use Rattle.layout.specs.Content.{liveVertices, position}
 use Rattle.layout.specs.Layout.{vertexLimit, hyperedgeAt, membersAt, read}
-use Rattle.layout.specs.WellFormed.{Formed}
+use Rattle.layout.specs.Inner.{Formed}
 use Rattle.layout.specs.Answers.{Result, listed}
 use Rattle.layout.specs.Steps.{Step, stepsOf, isStep, makesStep}
 use Rattle.layout.proofs.Read.{live-length, live-ascends}
 use Rattle.marks.specs.Marks.{isMarked, marking, marked}
 use Rattle.marks.proofs.Marked.{marking-at, marked-filter}
+use Rattle.lookups.specs.declared.Direction.{Direction}
+use Rattle.lookups.specs.declared.Direction.the-variants.{From, To}
+use Rattle.lookups.specs.declared.Ends.{Ends}
 use Rattle.lookups.specs.declared.Relation.{Relation}
-use Rattle.lookups.specs.declared.Relation.the-variants.{From, To, Around}
-use Rattle.lookups.specs.Lookups.{coMember, relates, end}
-use Rattle.lookups.specs.State.{someOf, with, isOther, noMarks, MarkedBy}
+use Rattle.lookups.specs.declared.Relation.the-variants.{Along, Around}
+use Rattle.lookups.specs.Lookups.{oriented, coMember, relates}
+use Rattle.lookups.specs.State.{endsOf, someOf, with, isOther, noMarks, MarkedBy}
 
 -- ---- one mark more
 
@@ -79,18 +82,18 @@ marked-as {live} {p} {q} {old} h b = record { sized = b .sized; each = λ k l. b
 pub marked-same : {live : List ℕ} {p : ℕ → Bool} {old : List Bool} → ((y : ℕ) → p y ≡ false) → MarkedBy live p old old
 marked-same {live} {p} {old} h = record { sized = refl; each = λ k l. sym (or-false (isMarked old k)) ∙ ap (λ (t : Bool). isMarked old k || t) (sym (h (getD live k 0))) }
 
--- ---- the step at a place: z is its end that the code compared with v, x the other
+-- ---- the step at a place: x is its ends, and the code compared the near one with v
 
 module _ (v : ℕ) (s : Step) where
-  pub step-yes : (arriving : Bool) {z x : ℕ} → z ≡ end arriving s → z ≡ v → x ≡ end (not arriving) s → (y : ℕ) → eqb y x ≡ facing arriving isStep v y s
+  pub step-yes : (dir : Direction) {x : Ends} → x ≡ endsOf dir s → x .near ≡ v → (y : ℕ) → eqb y (x .far) ≡ oriented dir isStep v y s
   unfolding isStep _and_
-  step-yes false {z} {x} e h q y = rw (eq-eqb (s .from) v (sym e ∙ h), q) (eqb-comm y (s .to))
-  step-yes true {z} {x} e h q y = rw (eq-eqb (s .to) v (sym e ∙ h), q) (eqb-comm y (s .from) ∙ sym (and-true (eqb (s .from) y)))
+  step-yes From {x} e h y = rw (eq-eqb (s .from) v (ap (λ (z : Ends). z .near) (sym e) ∙ h), e) (eqb-comm y (s .to))
+  step-yes To {x} e h y = rw (eq-eqb (s .to) v (ap (λ (z : Ends). z .near) (sym e) ∙ h), e) (eqb-comm y (s .from) ∙ sym (and-true (eqb (s .from) y)))
 
-  pub step-no : (arriving : Bool) {z : ℕ} → z ≡ end arriving s → (z ≡ v → ⊥) → (y : ℕ) → facing arriving isStep v y s ≡ false
+  pub step-no : (dir : Direction) {x : Ends} → x ≡ endsOf dir s → (x .near ≡ v → ⊥) → (y : ℕ) → oriented dir isStep v y s ≡ false
   unfolding isStep
-  step-no false {z} e h y = and-false-left _ _ (ne-eqb (s .from) v (λ q. h (e ∙ q)))
-  step-no true {z} e h y = and-false-right _ _ (ne-eqb (s .to) v (λ q. h (e ∙ q)))
+  step-no From {x} e h y = and-false-left _ _ (ne-eqb (s .from) v (λ q. h (ap (λ (z : Ends). z .near) e ∙ q)))
+  step-no To {x} e h y = and-false-right _ _ (ne-eqb (s .to) v (λ q. h (ap (λ (z : Ends). z .near) e ∙ q)))
 
 -- ---- the member at a place
 
@@ -137,15 +140,11 @@ others-are v y (m ∷ ms) = on-same y m
 -- ---- a record: ms is what `members_formed` returned, and the code went by the relation
 
 module _ (L : ℕ) (ws ms : List ℕ) (j : ℕ) (e : ms ≡ membersAt L ws j) (live : List ℕ) (rel : Relation) (v : ℕ) (old : List Bool) where
-  pub marked-from : (new : List Bool) → rel ≡ From → MarkedBy live (someOf (facing false isStep v) (stepsOf ms)) old new
+  pub marked-along : (dir : Direction) (new : List Bool) → rel ≡ Along dir → MarkedBy live (someOf (oriented dir isStep v) (stepsOf ms)) old new
       → MarkedBy live (with (relates rel v) (hyperedgeAt L ws j)) old new
   unfolding someOf relates makesStep
-  marked-from new h b = rw h (rw e at b)
-
-  pub marked-to : (new : List Bool) → rel ≡ To → MarkedBy live (someOf (facing true isStep v) (stepsOf ms)) old new
-      → MarkedBy live (with (relates rel v) (hyperedgeAt L ws j)) old new
-  unfolding someOf relates makesStep
-  marked-to new h b = rw h (rw e at b)
+  marked-along From new h b = rw h (rw e at b)
+  marked-along To new h b = rw h (rw e at b)
 
   -- r is what `holds` found
   module _ (r : Bool) (q : r ≡ memb v ms) (g : rel ≡ Around) where

@@ -1,11 +1,12 @@
 -- Laws of the steps of a list, of the places that pass a test, and of sums. Assumes nothing.
-use mathlib.Core.Path.{_≡_, refl, sym, ap, _∙_}
+use mathlib.Core.Path.{_≡_, refl, ap, _∙_}
 use mathlib.Core.Bool.{Bool, true, false}
 use mathlib.Core.List.{List, [], _∷_}
 use Prim.Native.Nat.{ℕ, zero, suc, _+_, _*_, _≤_, _<_}
 use native.Mathlib.Nat.{not-suc-le-zero, le-of-suc-le-suc}
 use native.Mathlib.Numerals.{add-one}
 use native.Mathlib.Omega.{arith}
+use lib.Dec.{eqb}
 use lib.ListN.{length, getD, drop, drop-of-length-le}
 use lib.Seq.{drop-cons}
 use borrow.Author.Tests.{eq-eqb, ne-eqb}
@@ -15,9 +16,13 @@ use Rattle.lists.proofs.Kept.{filter-length}
 use Rattle.lists.proofs.Tab.{drop-tab, length-tab}
 use Rattle.layout.specs.Steps.{Step, stepsOf}
 use Rattle.layout.specs.Layout.{hyperedgeCount, hyperedgeAt, membersAt, readHyperedges}
-use Rattle.layout.specs.WellFormed.{Formed}
+use Rattle.layout.specs.Inner.{Formed}
 use Rattle.layout.proofs.Read.{members-le}
-use Rattle.lookups.specs.Lookups.{end, stepAt, hasEnd, places, placesIn}
+use Rattle.lookups.specs.declared.Direction.{Direction}
+use Rattle.lookups.specs.declared.Direction.the-variants.{From, To}
+use Rattle.lookups.specs.declared.Ends.{Ends}
+use Rattle.lookups.specs.Lookups.{hasEnd, places, placesIn}
+use Rattle.lookups.specs.State.{endsOf, stepAt}
 
 -- ---- a loop over i along the steps of ms
 
@@ -34,23 +39,26 @@ steps-end (x ∷ []) zero h = refl
 steps-end (x ∷ y ∷ ms) zero h = absurd (not-suc-le-zero (le-of-suc-le-suc (rw (add-one 0) at h)))
 steps-end (x ∷ ms) (suc i) h = steps-end ms i (omega arith)
 
--- an end of the step at place i: the code tested which
-module _ (arriving : Bool) (ms : List ℕ) (i : ℕ) where
-  pub end-to : arriving ≡ true → getD ms (i + 1) 0 ≡ end arriving (stepAt ms i)
-  end-to e = rw e
+-- the ends of the step at place i: the code went by the direction
+module _ (dir : Direction) (ms : List ℕ) (i : ℕ) where
+  pub ends-from : dir ≡ From → record { near = getD ms i 0; far = getD ms (i + 1) 0 } ≡ endsOf dir (stepAt ms i)
+  ends-from e = rw e
 
-  pub end-from : arriving ≡ false → getD ms i 0 ≡ end arriving (stepAt ms i)
-  end-from e = rw e
+  pub ends-to : dir ≡ To → record { near = getD ms (i + 1) 0; far = getD ms i 0 } ≡ endsOf dir (stepAt ms i)
+  ends-to e = rw e
 
--- x is what `end_at` found, and the code compared it with v
-module _ (arriving : Bool) (v : ℕ) (s : Step) (x : ℕ) (e : x ≡ end arriving s) where
-  pub end-here : x ≡ v → hasEnd arriving v s ≡ true
-  unfolding hasEnd
-  end-here h = eq-eqb _ _ (sym e ∙ h)
+has-end : (dir : Direction) (v : ℕ) (s : Step) → hasEnd dir v s ≡ eqb (endsOf dir s .near) v
+unfolding hasEnd
+has-end From v s = refl
+has-end To v s = refl
 
-  pub end-other : (x ≡ v → ⊥) → hasEnd arriving v s ≡ false
-  unfolding hasEnd
-  end-other h = ne-eqb _ _ (λ q. h (e ∙ q))
+-- x is what `ends_at` found, and the code compared its near end with v
+module _ (dir : Direction) (v : ℕ) (s : Step) (x : Ends) (e : x ≡ endsOf dir s) where
+  pub end-here : x .near ≡ v → hasEnd dir v s ≡ true
+  end-here h = has-end dir v s ∙ rw (← e) (eq-eqb (x .near) v h)
+
+  pub end-other : (x .near ≡ v → ⊥) → hasEnd dir v s ≡ false
+  end-other h = has-end dir v s ∙ rw (← e) (ne-eqb (x .near) v h)
 
 -- ---- places
 

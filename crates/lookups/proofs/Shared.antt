@@ -21,8 +21,8 @@ use Rattle.layout.specs.declared.Found.the-variants.{At, Nothing}
 use Rattle.layout.specs.declared.Answer.the-variants.{TooFewHyperedges}
 use Rattle.layout.specs.Content.{Hyperedge, hyperedgeNumber, liveVertices, liveHyperedges, lists, position}
 use Rattle.layout.specs.Layout.{vertexLimit, hyperedgeCount, hyperedgeWord, hyperedgeAt, membersAt, read}
-use Rattle.layout.specs.WellFormed.{Formed, hyperedgeColumn}
-use Rattle.layout.specs.Answers.{Result, result, firstMissing, hyperedgeMissing, onLiveHyperedges, listed}
+use Rattle.layout.specs.Inner.{Formed, hyperedgeColumn, firstMissing}
+use Rattle.layout.specs.Answers.{Result, result, hyperedgeMissing, onLiveHyperedges, listed}
 use Rattle.layout.proofs.Answers.{on-first-missing, on-none-missing}
 use Rattle.layout.proofs.Position.{missing-dead}
 use Rattle.layout.proofs.Read.{live-length, hyperedge-found}

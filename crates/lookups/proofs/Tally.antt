@@ -1,6 +1,6 @@
 -- Laws of the loops that count places by the record of a vertex: what is left to be counted, and what a place counts. Assumes nothing.
 use mathlib.Core.Path.{_≡_, refl, sym, ap, _∙_}
-use mathlib.Core.Bool.{Bool, true, false, not, cond}
+use mathlib.Core.Bool.{Bool, true, false, cond}
 use mathlib.Core.List.{List, _∷_, _++_}
 use Prim.Native.Nat.{ℕ, zero, suc, _+_, _*_, _≤_, _<_}
 use native.Mathlib.Nat.{mul-le-mul-right}
@@ -9,7 +9,7 @@ use lib.Dec.{eqb}
 use lib.ListN.{length, getD, drop, set, replicate, length-set, length-replicate, getD-replicate}
 use lib.Seq.{getD-set-same, getD-set-other}
 use borrow.Author.Tests.{eq-eqb, ne-eqb}
-use Rattle.lists.specs.Lists.{flat, tab, Ascending, facing}
+use Rattle.lists.specs.Lists.{flat, tab, Ascending}
 use Rattle.lists.proofs.Cases.{on, on-same}
 use Rattle.lists.proofs.Flat.{flat-more}
 use Rattle.lists.proofs.Ascend.{ascending-apart}
@@ -17,70 +17,73 @@ use Rattle.layout.specs.declared.Found.{Found}
 use Rattle.layout.specs.declared.Found.the-variants.{At, Nothing}
 use Rattle.layout.specs.Content.{Hyperedge, Table, liveVertices, position}
 use Rattle.layout.specs.Layout.{limit, vertexLimit, vertexCount, hyperedgeCount, hyperedgeAt, membersAt, readHyperedges, read}
-use Rattle.layout.specs.WellFormed.{Formed}
+use Rattle.layout.specs.Inner.{Formed}
 use Rattle.layout.specs.Steps.{isStep}
 use Rattle.layout.proofs.Position.{position-found, position-missing}
 use Rattle.layout.proofs.Read.{live-length, vertex-found}
+use Rattle.lookups.specs.declared.Direction.{Direction}
+use Rattle.lookups.specs.declared.Direction.the-variants.{From, To}
+use Rattle.lookups.specs.declared.Ends.{Ends}
 use Rattle.lookups.specs.declared.Listing.{Listing}
 use Rattle.lookups.specs.declared.Listing.the-variants.{Connecting}
-use Rattle.lookups.specs.Lookups.{end, stepAt, places, placesIn, block, blockLength, listing, connecting}
-use Rattle.lookups.specs.State.{listingMost, listingAhead, nothing, tallying, Tallied}
+use Rattle.lookups.specs.Lookups.{oriented, places, placesIn, block, listing, connecting}
+use Rattle.lookups.specs.State.{endsOf, stepAt, blockLength, listingMost, listingAhead, nothing, tallying, Tallied}
 use Rattle.lookups.proofs.Places.{places-more, places-none, records-more, records-none}
 use Rattle.lookups.proofs.Marking.{step-yes, step-no}
 use Rattle.lookups.proofs.Laid.{block-most}
 
 -- ---- what a listing has left: of record j's list from place i on, and then of the records behind
 
-unfoldable pub passing : Bool → ℕ → ℕ → List ℕ → ℕ → (ℕ → List ℕ) → ℕ → List ℕ
-passing arriving v e ms i rest y = replicate (places (facing arriving isStep v y) (drop i ms)) e ++ rest y
+unfoldable pub passing : Direction → ℕ → ℕ → List ℕ → ℕ → (ℕ → List ℕ) → ℕ → List ℕ
+passing dir v e ms i rest y = replicate (places (oriented dir isStep v y) (drop i ms)) e ++ rest y
 
-block-facing : (arriving : Bool) (v y : ℕ) (e : Hyperedge) → block (facing arriving Connecting v y) e ≡ replicate (placesIn (facing arriving isStep v y) e) (e .number)
+block-along : (dir : Direction) (v y : ℕ) (e : Hyperedge) → block (oriented dir Connecting v y) e ≡ replicate (placesIn (oriented dir isStep v y) e) (e .number)
 unfolding block
-block-facing false v y e = refl
-block-facing true v y e = refl
+block-along From v y e = refl
+block-along To v y e = refl
 
 -- ms and e are what `members_formed` and `hyperedge_number` gave
-pub passing-first : (L : ℕ) (ws : List ℕ) (j v : ℕ) (arriving : Bool) (ms : List ℕ) (e : ℕ) → j < hyperedgeCount ws → ms ≡ membersAt L ws j
-    → e ≡ hyperedgeAt L ws j .number → (y : ℕ) → listingAhead arriving (read L ws) v j y ≡ passing arriving v e ms 0 (listingAhead arriving (read L ws) v (j + 1)) y
+pub passing-first : (L : ℕ) (ws : List ℕ) (j v : ℕ) (dir : Direction) (ms : List ℕ) (e : ℕ) → j < hyperedgeCount ws → ms ≡ membersAt L ws j
+    → e ≡ hyperedgeAt L ws j .number → (y : ℕ) → listingAhead dir (read L ws) v j y ≡ passing dir v e ms 0 (listingAhead dir (read L ws) v (j + 1)) y
 unfolding listingAhead passing flat placesIn
-passing-first L ws j v arriving ms e h q s y =
-    ap (flat (block (facing arriving Connecting v y))) (records-more L ws {j = j} refl h)
-    ∙ ap (λ (xs : List ℕ). xs ++ flat (block (facing arriving Connecting v y)) (drop (j + 1) (readHyperedges L ws))) (block-facing arriving v y (hyperedgeAt L ws j))
+passing-first L ws j v dir ms e h q s y =
+    ap (flat (block (oriented dir Connecting v y))) (records-more L ws {j = j} refl h)
+    ∙ ap (λ (xs : List ℕ). xs ++ flat (block (oriented dir Connecting v y)) (drop (j + 1) (readHyperedges L ws))) (block-along dir v y (hyperedgeAt L ws j))
     ∙ rw (q, s)
 
-module _ (arriving : Bool) (v e : ℕ) (ms : List ℕ) (i : ℕ) (rest : ℕ → List ℕ) where
-  -- z is the end of the step at place i that the code compared with v, x the other
-  pub passing-yes : (z x : ℕ) → i + 1 < length ms → z ≡ end arriving (stepAt ms i) → z ≡ v → x ≡ end (not arriving) (stepAt ms i)
-      → (y : ℕ) → passing arriving v e ms i rest y ≡ cond (eqb y x) (e ∷ passing arriving v e ms (i + 1) rest y) (passing arriving v e ms (i + 1) rest y)
+module _ (dir : Direction) (v e : ℕ) (ms : List ℕ) (i : ℕ) (rest : ℕ → List ℕ) where
+  -- x is the ends of the step at place i, and the code compared the near one with v
+  pub passing-yes : (x : Ends) → i + 1 < length ms → x ≡ endsOf dir (stepAt ms i) → x .near ≡ v
+      → (y : ℕ) → passing dir v e ms i rest y ≡ cond (eqb y (x .far)) (e ∷ passing dir v e ms (i + 1) rest y) (passing dir v e ms (i + 1) rest y)
   unfolding passing
-  passing-yes z x h a b d y = on (eqb y x)
-      (λ q. rw (q, one-more true (sym (step-yes v (stepAt ms i) arriving a b d y) ∙ q)))
-      (λ q. rw (q, one-more false (sym (step-yes v (stepAt ms i) arriving a b d y) ∙ q)))
+  passing-yes x h a b y = on (eqb y (x .far))
+      (λ q. rw (q, one-more true (sym (step-yes v (stepAt ms i) dir a b y) ∙ q)))
+      (λ q. rw (q, one-more false (sym (step-yes v (stepAt ms i) dir a b y) ∙ q)))
     where
-      one-more : (b : Bool) → facing arriving isStep v y (stepAt ms i) ≡ b
-          → places (facing arriving isStep v y) (drop i ms) ≡ cond b (suc (places (facing arriving isStep v y) (drop (i + 1) ms))) (places (facing arriving isStep v y) (drop (i + 1) ms))
-      one-more true q = omega (arith, places-more (facing arriving isStep v y) ms i true h q)
-      one-more false q = omega (arith, places-more (facing arriving isStep v y) ms i false h q)
+      one-more : (b : Bool) → oriented dir isStep v y (stepAt ms i) ≡ b
+          → places (oriented dir isStep v y) (drop i ms) ≡ cond b (suc (places (oriented dir isStep v y) (drop (i + 1) ms))) (places (oriented dir isStep v y) (drop (i + 1) ms))
+      one-more true q = omega (arith, places-more (oriented dir isStep v y) ms i true h q)
+      one-more false q = omega (arith, places-more (oriented dir isStep v y) ms i false h q)
 
-  pub passing-no : (z : ℕ) → i + 1 < length ms → z ≡ end arriving (stepAt ms i) → (z ≡ v → ⊥)
-      → (y : ℕ) → passing arriving v e ms i rest y ≡ passing arriving v e ms (i + 1) rest y
+  pub passing-no : (x : Ends) → i + 1 < length ms → x ≡ endsOf dir (stepAt ms i) → (x .near ≡ v → ⊥)
+      → (y : ℕ) → passing dir v e ms i rest y ≡ passing dir v e ms (i + 1) rest y
   unfolding passing
-  passing-no z h a b y =
-      let q : places (facing arriving isStep v y) (drop i ms) ≡ places (facing arriving isStep v y) (drop (i + 1) ms) =
-      omega (arith, places-more (facing arriving isStep v y) ms i false h (step-no v (stepAt ms i) arriving a b y)) in
+  passing-no x h a b y =
+      let q : places (oriented dir isStep v y) (drop i ms) ≡ places (oriented dir isStep v y) (drop (i + 1) ms) =
+      omega (arith, places-more (oriented dir isStep v y) ms i false h (step-no v (stepAt ms i) dir a b y)) in
       rw q
 
-  pub passing-end : length ms ≤ i + 1 → (y : ℕ) → passing arriving v e ms i rest y ≡ rest y
+  pub passing-end : length ms ≤ i + 1 → (y : ℕ) → passing dir v e ms i rest y ≡ rest y
   unfolding passing
-  passing-end h y = rw (places-none (facing arriving isStep v y) ms i h)
+  passing-end h y = rw (places-none (oriented dir isStep v y) ms i h)
 
-pub ahead-first : (arriving : Bool) (t : Table) (v y : ℕ) → connecting arriving t v y ≡ listingAhead arriving t v 0 y
+pub ahead-first : (dir : Direction) (t : Table) (v y : ℕ) → connecting dir t v y ≡ listingAhead dir t v 0 y
 unfolding listingAhead connecting listing
-ahead-first arriving t v y = refl
+ahead-first dir t v y = refl
 
-pub ahead-end : (L : ℕ) (ws : List ℕ) (v j : ℕ) (arriving : Bool) → hyperedgeCount ws ≤ j → (y : ℕ) → listingAhead arriving (read L ws) v j y ≡ nothing y
+pub ahead-end : (L : ℕ) (ws : List ℕ) (v j : ℕ) (dir : Direction) → hyperedgeCount ws ≤ j → (y : ℕ) → listingAhead dir (read L ws) v j y ≡ nothing y
 unfolding listingAhead flat
-ahead-end L ws v j arriving h y = ap (flat (block (facing arriving Connecting v y))) (records-none L ws {j = j} refl h)
+ahead-end L ws v j dir h y = ap (flat (block (oriented dir Connecting v y))) (records-none L ws {j = j} refl h)
 
 -- ---- how long a list can be
 
@@ -89,10 +92,10 @@ unfolding flat tab blockLength
 blocks-most L ws q f zero h = omega arith
 blocks-most L ws q f (suc j) h = omega (arith, flat-more (block q) (hyperedgeAt L ws) j, blocks-most L ws q f j (omega arith), block-most L ws j q f (omega arith))
 
-pub connecting-most : (ws : List ℕ) (arriving : Bool) (v y : ℕ) → Formed limit ws → length (connecting arriving (read limit ws) v y) ≤ listingMost
+pub connecting-most : (ws : List ℕ) (dir : Direction) (v y : ℕ) → Formed limit ws → length (connecting dir (read limit ws) v y) ≤ listingMost
 unfolding connecting listing
-connecting-most ws arriving v y f =
-    omega (arith, blocks-most limit ws (facing arriving Connecting v y) f (hyperedgeCount ws) (omega arith), mul-le-mul-right (suc limit) (f .shape .hyperedges-le))
+connecting-most ws dir v y f =
+    omega (arith, blocks-most limit ws (oriented dir Connecting v y) f (hyperedgeCount ws) (omega arith), mul-le-mul-right (suc limit) (f .shape .hyperedges-le))
 
 -- ---- a search for x found p, and the record found counts one more
 

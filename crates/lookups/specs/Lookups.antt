@@ -1,17 +1,31 @@
 -- What each lookup counts or lists, over a table's content. Assumes nothing.
-use mathlib.Core.Bool.{Bool, true, false, not, cond}
+use mathlib.Core.Bool.{Bool, not, cond}
 use mathlib.Core.List.{List, [], _∷_, map}
-use Prim.Native.Nat.{ℕ, _+_}
+use Prim.Native.Nat.{ℕ}
 use lib.Dec.{eqb}
-use lib.ListN.{length, getD, replicate}
+use lib.ListN.{length, replicate}
 use Rattle.lists.specs.Tests.{_and_}
-use Rattle.lists.specs.Lists.{all, any, memb, filter, facing, sumOver, flat, counted}
+use Rattle.lists.specs.Lists.{all, any, memb, filter, sumOver, flat, counted}
 use Rattle.layout.specs.Content.{Vertex, Hyperedge, Table, liveVertices, vertexNumber, lists}
 use Rattle.layout.specs.Steps.{Step, stepsOf, isStep, makesStep}
+use Rattle.lookups.specs.declared.Direction.{Direction}
+use Rattle.lookups.specs.declared.Direction.the-variants.{From, To}
 use Rattle.lookups.specs.declared.Relation.{Relation}
-use Rattle.lookups.specs.declared.Relation.the-variants.{From, To, Around}
+use Rattle.lookups.specs.declared.Relation.the-variants.{Along, Around}
 use Rattle.lookups.specs.declared.Listing.{Listing}
 use Rattle.lookups.specs.declared.Listing.the-variants.{Connecting, Weighing, Holding}
+
+-- ---- steps, seen from v
+
+-- what f makes of the step from v to y, or of the step from y to v
+abbrev pub oriented : {A : Type 0} → Direction → (ℕ → ℕ → A) → ℕ → ℕ → A
+oriented From f v y = f v y
+oriented To f v y = f y v
+
+-- the step leads from v, or it leads to v
+unfoldable pub hasEnd : Direction → ℕ → Step → Bool
+hasEnd From v s = eqb (s .from) v
+hasEnd To v s = eqb (s .to) v
 
 -- ---- vertices that a hyperedge relates to v
 
@@ -19,10 +33,9 @@ use Rattle.lookups.specs.declared.Listing.the-variants.{Connecting, Weig
 unfoldable pub coMember : ℕ → ℕ → Hyperedge → Bool
 coMember v y e = lists v e and lists y e and not (eqb y v)
 
--- y stands right after v, right before v, or with v in the list
+-- y stands right after v or right before v, or with v in the list
 unfoldable pub relates : Relation → ℕ → ℕ → Hyperedge → Bool
-relates From v y e = makesStep v y e
-relates To v y e = makesStep y v e
+relates (Along dir) v y e = oriented dir makesStep v y e
 relates Around v y e = coMember v y e
 
 -- some hyperedge relates y to v
@@ -53,19 +66,6 @@ shared xs t = filter (isShared t xs) (liveVertices t)
 
 -- ---- places
 
--- where a step starts, or where it arrives
-abbrev pub end : Bool → Step → ℕ
-end false s = s .from
-end true s = s .to
-
--- v is where the step starts, or where it ends
-unfoldable pub hasEnd : Bool → ℕ → Step → Bool
-hasEnd arriving v s = eqb (end arriving s) v
-
--- the step at place i of a list
-abbrev pub stepAt : List ℕ → ℕ → Step
-stepAt ms i = record { from = getD ms i 0; to = getD ms (i + 1) 0 }
-
 -- the places of a list at which the step passes the test
 unfoldable pub places : (Step → Bool) → List ℕ → ℕ
 places p ms = length (filter p (stepsOf ms))
@@ -75,8 +75,8 @@ unfoldable pub placesIn : (Step → Bool) → Hyperedge → ℕ
 placesIn p e = places p (e .members)
 
 -- degrees count every place
-unfoldable pub degree : Bool → ℕ → Table → ℕ
-degree arriving v t = sumOver (placesIn (hasEnd arriving v)) (t .hyperedges)
+unfoldable pub degree : Direction → ℕ → Table → ℕ
+degree dir v t = sumOver (placesIn (hasEnd dir v)) (t .hyperedges)
 
 -- ---- listings of hyperedges
 
@@ -91,10 +91,6 @@ block (Connecting x y) e = replicate (placesIn (isStep x y) e) (e .number)
 block (Weighing w) e = cond (eqb (e .weight) w) (e .number ∷ []) []
 block (Holding v) e = held v (e .members)
 
--- how many words that is
-unfoldable pub blockLength : Listing → Hyperedge → ℕ
-blockLength q e = length (block q e)
-
 -- the listing: what it has of each hyperedge, ascending
 unfoldable pub listing : Listing → Table → List ℕ
 listing q t = flat (block q) (t .hyperedges)
@@ -102,21 +98,16 @@ listing q t = flat (block q) (t .hyperedges)
 -- ---- full listings of adjacent vertices
 
 -- the hyperedges that step from v to y, or from y to v, once for each place
-unfoldable pub connecting : Bool → Table → ℕ → ℕ → List ℕ
-connecting arriving t v y = listing (facing arriving Connecting v y) t
+unfoldable pub connecting : Direction → Table → ℕ → ℕ → List ℕ
+connecting dir t v y = listing (oriented dir Connecting v y) t
 
 -- vertex, count, hyperedges
-unfoldable pub adjacentEntry : Bool → Table → ℕ → ℕ → List ℕ
-adjacentEntry arriving t v y = y ∷ counted (connecting arriving t v y)
-
--- the vertices right after v, or right before v
-abbrev pub adjacency : Bool → Relation
-adjacency false = From
-adjacency true = To
+unfoldable pub adjacentEntry : Direction → Table → ℕ → ℕ → List ℕ
+adjacentEntry dir t v y = y ∷ counted (connecting dir t v y)
 
 -- each adjacent vertex, ascending
-unfoldable pub fullAdjacent : Bool → ℕ → Table → List ℕ
-fullAdjacent arriving v t = flat (adjacentEntry arriving t v) (related (adjacency arriving) v t)
+unfoldable pub fullAdjacent : Direction → ℕ → Table → List ℕ
+fullAdjacent dir v t = flat (adjacentEntry dir t v) (related (Along dir) v t)
 
 -- ---- vertices of a weight
 

@@ -6,14 +6,19 @@ use Prim.Native.Nat.{ℕ, suc, _+_, _*_, _-_, _≤_, _<_}
 use lib.Dec.{eqb}
 use lib.ListN.{length, getD, take, drop, set, replicate}
 use Rattle.lists.specs.Tests.{_and_}
-use Rattle.lists.specs.Lists.{any, flat, facing, sumOver}
+use Rattle.lists.specs.Lists.{any, flat, sumOver, counted}
 use Rattle.layout.specs.declared.Found.{Found}
 use Rattle.layout.specs.declared.Found.the-variants.{At, Nothing}
-use Rattle.layout.specs.Content.{Table}
+use Rattle.layout.specs.Content.{Table, Hyperedge}
 use Rattle.layout.specs.Layout.{vertexLimit, hyperedgeLimit, limit, vertexAt}
 use Rattle.marks.specs.Marks.{isMarked}
+use Rattle.lookups.specs.declared.Direction.{Direction}
+use Rattle.lookups.specs.declared.Direction.the-variants.{From, To}
+use Rattle.lookups.specs.declared.Ends.{Ends}
 use Rattle.lookups.specs.declared.Listing.the-variants.{Connecting}
-use Rattle.lookups.specs.Lookups.{block, weighs}
+use Rattle.lookups.specs.Lookups.{oriented, block, weighs}
+use Rattle.layout.specs.Steps.{Step}
+use Rattle.lookups.specs.declared.Listing.{Listing}
 
 -- ---- marks
 
@@ -58,8 +63,8 @@ abbrev pub listingMost : ℕ
 listingMost = hyperedgeLimit * suc limit
 
 -- what the hyperedges from record j on list of the steps v to y, or y to v
-unfoldable pub listingAhead : Bool → Table → ℕ → ℕ → ℕ → List ℕ
-listingAhead arriving t v j y = flat (block (facing arriving Connecting v y)) (drop j (t .hyperedges))
+unfoldable pub listingAhead : Direction → Table → ℕ → ℕ → ℕ → List ℕ
+listingAhead dir t v j y = flat (block (oriented dir Connecting v y)) (drop j (t .hyperedges))
 
 -- nothing is left
 abbrev pub nothing : ℕ → List ℕ
@@ -129,3 +134,16 @@ pub record Filling (live : List ℕ) (whole left : ℕ → List ℕ) (nexts out 
   pub todo : (k : ℕ) → k < length live → drop (getD nexts k 0 - offset live whole k) (fullWords whole (getD live k 0)) ≡ left (getD live k 0)
   pub done : (k p : ℕ) → k < length live → offset live whole k ≤ p → p < getD nexts k 0
       → getD out p 0 ≡ getD (fullWords whole (getD live k 0)) (p - offset live whole k) 0
+
+-- near is where the step starts and far where it arrives, or the other way round
+abbrev pub endsOf : Direction → Step → Ends
+endsOf From s = record { near = s .from; far = s .to }
+endsOf To s = record { near = s .to; far = s .from }
+
+-- the step at place i of a list
+abbrev pub stepAt : List ℕ → ℕ → Step
+stepAt ms i = record { from = getD ms i 0; to = getD ms (i + 1) 0 }
+
+-- how many words that is
+unfoldable pub blockLength : Listing → Hyperedge → ℕ
+blockLength q e = length (block q e)

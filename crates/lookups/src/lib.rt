@@ -3,12 +3,18 @@ ghost use mathlib.Core.Path.{_≡_};
 ghost use Prim.Native.Nat.{_+_, _<_};
 ghost use lib.ListN.{length};
 ghost use Rattle.lists.specs.Lists.{memb};
-ghost use Rattle.lookups.specs.Lookups.{end, stepAt};
+ghost use Rattle.lookups.specs.State.{endsOf, stepAt};
 
-// How a hyperedge relates a vertex to another: the other stands right after it, right before it, or with it in the list.
-pub enum Relation {
+// A direction of steps, seen from a vertex v. From: the steps that lead from v, to a vertex right after it in a list. To: the
+// steps that lead to v, from a vertex right before it.
+pub enum Direction {
     From,
     To,
+}
+
+// How a hyperedge relates a vertex to another: it steps between the two in the direction, or it lists both.
+pub enum Relation {
+    Along(Direction),
     Around,
 }
 
@@ -19,15 +25,29 @@ pub enum Listing {
     Holding(u32),
 }
 
-// An end of the step at place i.
-pub fn end_at(ms: &[u32], i: usize, arriving: bool) -> u32
+// The ends of a step that is seen in a direction: the end from which it is seen, and the other.
+pub struct Ends {
+    pub near: u32,
+    pub far: u32,
+}
+
+// The ends of the step at place i.
+pub fn ends_at(ms: &[u32], i: usize, dir: Direction) -> Ends
     requires { ⌜ i + 1 < length (now ms) ⌝ }
-    ensures { λ r. ⌜ r ≡ end arriving (stepAt (now (ms .entry)) i) ⌝ }
+    ensures { λ r. ⌜ r ≡ endsOf dir (stepAt (now (ms .entry)) i) ⌝ }
 {
-    if arriving {
-        return ms[i + 1];
+    let from = ms[i];
+    let to = ms[i + 1];
+    match dir {
+        Direction::From => Ends {
+            near: from,
+            far: to,
+        },
+        Direction::To => Ends {
+            near: to,
+            far: from,
+        },
     }
-    ms[i]
 }
 
 pub fn holds(ms: &[u32], v: u32) -> bool

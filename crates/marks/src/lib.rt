@@ -7,7 +7,7 @@ ghost use Rattle.lists.specs.Tests.{count, chosen};
 ghost use Rattle.lists.specs.Lists.{over, wordAt};
 ghost use Rattle.layout.specs.Content.{liveVertices, position};
 ghost use Rattle.layout.specs.Layout.{limit, vertexLimit, vertexCount, read};
-ghost use Rattle.layout.specs.WellFormed.{Formed};
+ghost use Rattle.layout.specs.Inner.{Formed};
 ghost use Rattle.layout.specs.Answers.{result, listed};
 ghost use Rattle.marks.specs.Marks.{isMarked, marking, marked};
 use layout::Answer;

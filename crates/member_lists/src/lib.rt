@@ -2,7 +2,7 @@
 ghost use mathlib.Core.Path.{_≡_};
 ghost use Rattle.lists.specs.Lists.{sameList};
 ghost use Rattle.layout.specs.Layout.{limit, read};
-ghost use Rattle.layout.specs.WellFormed.{Formed};
+ghost use Rattle.layout.specs.Inner.{Formed};
 ghost use Rattle.edits.specs.Stages.{JudgedBy};
 use edits::Judgement;
 use layout::Answer;

@@ -5,7 +5,7 @@ ghost use Prim.Native.Nat.{_*_, _<_, _≤_};
 ghost use lib.ListN.{length};
 ghost use Rattle.lists.specs.Tests.{_and_, every};
 ghost use Rattle.layout.specs.Layout.{limit, vertexLimit, hyperedgeCount, hyperedgeAt, read};
-ghost use Rattle.layout.specs.WellFormed.{Formed};
+ghost use Rattle.layout.specs.Inner.{Formed};
 ghost use Rattle.marks.specs.Marks.{isMarked};
 ghost use Rattle.properties.specs.Properties.{under, within, isWithin};
 ghost use Rattle.properties.specs.State.{rowOf, SetOf, RowPut, Sets};

@@ -3,7 +3,7 @@ ghost use mathlib.Core.Path.{_≡_};
 ghost use Prim.Native.Nat.{_<_, _≤_, _^_};
 ghost use lib.ListN.{length, getD, take};
 ghost use Rattle.layout.specs.Layout.{limit, vertexLimit, vertexCount, hyperedgeCount, membersAt};
-ghost use Rattle.layout.specs.WellFormed.{Formed};
+ghost use Rattle.layout.specs.Inner.{Formed};
 ghost use Rattle.walk.specs.Walk.{totalWeight, isFirstOther, otherMembers, toOneOf};
 ghost use Rattle.walk.specs.Passes.{largestWord, Firsts, Listers, listersOf, recordsAt, Greater, TakenBy};
 use walk::Walker;

@@ -14,7 +14,8 @@ use Rattle.graph.specs.Reach.{Edge}
 use Rattle.lists.proofs.Cases.{on, on-same, clash, or-right, test-ext, and-true-left, and-true-right}
 use Rattle.lists.proofs.Count.{pigeon, full, lacks, count-none}
 use Rattle.lists.proofs.Memb.{memb-left, memb-snoc, memb-getD, memb-at, below-snoc, distinct-snoc, memb-append, memb-self, below-memb}
-use Rattle.lists.specs.Lists.{memb, isBelow, Distinct, Below}
+use Rattle.lists.specs.Lists.{memb, isBelow, Distinct}
+use Rattle.lists.specs.Inner.{Below}
 use Rattle.lists.specs.Tests.{count}
 use Rattle.order.proofs.Least.{least-hit, least-le, count-zero, count-some}
 use Rattle.order.specs.Least.{least}

@@ -17,7 +17,8 @@ use Rattle.lists.proofs.Cases.{on, on-same}
 use Rattle.lists.proofs.Chosen.{over-none, over-more}
 use Rattle.lists.proofs.Count.{count-ext, count-flip, room}
 use Rattle.lists.proofs.Memb.{memb-snoc-self, memb-snoc-other, distinct-snoc, below-snoc}
-use Rattle.lists.specs.Lists.{memb, isBelow, Distinct, Below, over, blank}
+use Rattle.lists.specs.Lists.{memb, isBelow, Distinct, over}
+use Rattle.lists.specs.Inner.{Below, blank}
 use Rattle.lists.specs.Tests.{count, bit}
 use Rattle.order.proofs.Greedy.{avail-new, next-avail, rest-more, rest-end, greedy-short, greedy-sorts, greedy-fails}
 use Rattle.order.proofs.Least.{least-ext, least-hit}

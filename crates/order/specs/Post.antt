@@ -5,7 +5,8 @@ use mathlib.Core.List.{List}
 use Prim.Native.Nat.{ℕ}
 use lib.ListN.{take}
 use Rattle.graph.specs.Reach.{Edge}
-use Rattle.lists.specs.Lists.{isBelow, blank, over}
+use Rattle.lists.specs.Lists.{isBelow, over}
+use Rattle.lists.specs.Inner.{blank}
 use Rattle.order.specs.Greedy.{greedy}
 use Rattle.order.specs.Sort.{Smallest}
 use Rattle.walks.specs.Walks.{Closed}

@@ -5,7 +5,8 @@ use mathlib.Core.List.{List, _++_}
 use Prim.Native.Nat.{ℕ, _+_, _-_, _*_, _≤_, _<_}
 use lib.Dec.{eqb}
 use lib.ListN.{length, getD, take}
-use Rattle.lists.specs.Lists.{memb, Distinct, Below, over, blank}
+use Rattle.lists.specs.Lists.{memb, Distinct, over}
+use Rattle.lists.specs.Inner.{Below, blank}
 use Rattle.lists.specs.Tests.{count, bit}
 use Rattle.order.specs.Greedy.{waits, next, rest, greedy}
 

@@ -8,7 +8,7 @@ use Rattle.layout.specs.declared.Found.{Found}
 use Rattle.layout.specs.declared.Found.the-variants.{At, Nothing}
 use Rattle.layout.specs.Content.{liveVertices, position}
 use Rattle.layout.specs.Layout.{limit, vertexCount, hyperedgeCount, read}
-use Rattle.layout.specs.WellFormed.{Formed}
+use Rattle.layout.specs.Inner.{Formed}
 use Rattle.layout.specs.Answers.{Result, result, onLive, listed, vertexMissing}
 use Rattle.layout.proofs.Position.{position-found, found-live, missing-dead}
 use Rattle.layout.proofs.Read.{vertex-found}

@@ -17,11 +17,12 @@ use Rattle.lists.proofs.Tab.{length-tab, getD-tab}
 use Rattle.layout.specs.declared.Found.the-variants.{At}
 use Rattle.layout.specs.Content.{Hyperedge, Table, liveVertices, position, noHyperedge}
 use Rattle.layout.specs.Layout.{limit, vertexLimit, vertexCount, hyperedgeCount, hyperedgeAt, membersAt, read}
-use Rattle.layout.specs.WellFormed.{Formed}
+use Rattle.layout.specs.Inner.{Formed}
 use Rattle.layout.specs.Steps.{stepsOf, isStep, makesStep}
 use Rattle.layout.proofs.Position.{position-found}
 use Rattle.layout.proofs.Read.{live-length, live-ascends}
-use Rattle.steps.specs.Matrices.{numberOf, cell}
+use Rattle.steps.specs.Matrices.{numberOf}
+use Rattle.steps.specs.Inner.{cell}
 use Rattle.lists.proofs.Any.{any-snoc}
 use Rattle.steps.proofs.Placed.{steps-more, steps-none}
 use Rattle.steps.proofs.Drawing.{same-record, and-swap}

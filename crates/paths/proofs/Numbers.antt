@@ -9,13 +9,14 @@ use native.Mathlib.Omega.{arith}
 use lib.Dec.{eqb}
 use lib.ListN.{length, getD, take}
 use borrow.Author.Tests.{eq-eqb, ne-eqb, not-true, not-false}
-use Rattle.lists.specs.Lists.{memb, Below, wordAt}
+use Rattle.lists.specs.Lists.{memb, wordAt}
+use Rattle.lists.specs.Inner.{Below}
 use Rattle.lists.proofs.Cases.{on-same}
 use Rattle.lists.proofs.Maps.{map-length}
 use Rattle.lists.proofs.Memb.{memb-getD}
 use Rattle.layout.specs.Content.{Table, liveVertices}
 use Rattle.layout.specs.Layout.{limit, vertexCount, hyperedgeCount, read}
-use Rattle.layout.specs.WellFormed.{Formed}
+use Rattle.layout.specs.Inner.{Formed}
 use Rattle.layout.specs.Steps.{hasStep, StepIn}
 use Rattle.layout.proofs.Read.{live-length}
 use Rattle.graph.specs.Reach.{Edge}

@@ -10,7 +10,7 @@ use lib.ListN.{length, getD}
 use Rattle.lists.specs.Lists.{memb}
 use Rattle.layout.specs.Content.{Table, liveVertices, isLive}
 use Rattle.layout.specs.Layout.{limit, read}
-use Rattle.layout.specs.WellFormed.{Formed}
+use Rattle.layout.specs.Inner.{Formed}
 use Rattle.layout.specs.Steps.{hasStep, StepIn}
 use Rattle.layout.proofs.Read.{live-length}
 use Rattle.distance.specs.Best.{Walk, total, Best}

@@ -15,8 +15,8 @@ use Rattle.lists.proofs.Cases.{on, on-same, on-below, clash, and-both, and-fals
 use Rattle.lists.proofs.Tab.{length-tab, getD-tab}
 use Rattle.layout.specs.Content.{Hyperedge, Table, noHyperedge}
 use Rattle.layout.specs.Layout.{limit, vertexLimit, hyperedgeCount, hyperedgeAt, readHyperedges, read}
-use Rattle.layout.specs.WellFormed.{Formed}
-use Rattle.steps.specs.Matrices.{cell}
+use Rattle.layout.specs.Inner.{Formed}
+use Rattle.steps.specs.Inner.{cell}
 use Rattle.distance.specs.Cost.{Within}
 use Rattle.paths.specs.Paths.{weightBy, lighter}
 use Rattle.lists.specs.Lists.{wordAt}

@@ -11,7 +11,8 @@ use lib.ListN.{length, getD, take, drop, set, length-append, List·getD-eq-defau
 use lib.Seq.{drop-cons, drop-length, length-take-le, getD-take}
 use borrow.Author.Tests.{eq-eqb, ne-eqb}
 use Rattle.lists.specs.Tests.{bit, count}
-use Rattle.lists.specs.Lists.{tab, upTo, flat, over, overAt}
+use Rattle.lists.specs.Lists.{tab, upTo, flat, over}
+use Rattle.lists.specs.Inner.{overAt}
 use Rattle.lists.proofs.Cases.{on}
 use Rattle.lists.proofs.Chosen.{over-none, over-part, over-length}
 use Rattle.lists.proofs.OverAt.{over-at-none, length-over-at, over-at-join, over-at-more, over-at-pair}
@@ -23,11 +24,12 @@ use Rattle.lists.proofs.Tab.{tab-suc, getD-tab, length-tab}
 use Rattle.layout.specs.declared.Answer.the-variants.{Done, NoRoom}
 use Rattle.layout.specs.Content.{Hyperedge, Table, liveVertices, noHyperedge}
 use Rattle.layout.specs.Layout.{limit, vertexCount, vertexWord, hyperedgeCount, hyperedgeAt, readHyperedges, read}
-use Rattle.layout.specs.WellFormed.{Formed}
+use Rattle.layout.specs.Inner.{Formed}
 use Rattle.layout.specs.Answers.{result, listed}
 use Rattle.layout.proofs.Answers.{listed-over, listed-fits}
 use Rattle.layout.proofs.Read.{live-length, live-at}
-use Rattle.steps.specs.Matrices.{numberOf, cell}
+use Rattle.steps.specs.Matrices.{numberOf}
+use Rattle.steps.specs.Inner.{cell}
 use Rattle.paths.specs.Paths.{hyperedgeBy, stepHyperedge, low, high, noNumber, entriesAfter, costTo, costsFrom}
 use Rattle.paths.specs.Choices.{Chosen}
 use Rattle.paths.specs.Written.{Laid, noPath, pathHead, stepWords, isReached, keyWords, keysBelow, WroteAt}

@@ -9,7 +9,8 @@ use Rattle.lists.specs.Tests.{_and_}
 use Rattle.lists.specs.Lists.{facing}
 use Rattle.layout.specs.Content.{Table}
 use Rattle.layout.specs.Layout.{limit, vertexLimit, vertexCount, read}
-use Rattle.steps.specs.Matrices.{numberOf, cell}
+use Rattle.steps.specs.Matrices.{numberOf}
+use Rattle.steps.specs.Inner.{cell}
 use Rattle.paths.specs.Paths.{weightBy, choiceAmong, choice}
 
 -- the weights of the first k hyperedges, by place; 0 at every other place

@@ -10,7 +10,8 @@ use Rattle.lists.specs.Lists.{flat}
 use Rattle.layout.specs.Content.{Hyperedge, noHyperedge, Table, liveVertices}
 use Rattle.layout.specs.Steps.{makesStep, hasStep}
 use Rattle.layout.specs.Answers.{Result, onLiveVertex, onLiveVertices, listed}
-use Rattle.distance.specs.Best.{total, best}
+use Rattle.distance.specs.Best.{total}
+use Rattle.distance.specs.Computed.{best}
 
 -- ---- the hyperedge of a step
 
@@ -24,6 +25,8 @@ pub record Lightest (t : Table) (x y : ℕ) (e : Hyperedge) : Type 0 where
       → e .weight ≤ getD (t .hyperedges) j noHyperedge .weight
   pub lowest : (j : ℕ) → j < length (t .hyperedges) → makesStep x y (getD (t .hyperedges) j noHyperedge) ≡ true
       → getD (t .hyperedges) j noHyperedge .weight ≡ e .weight → e .number ≤ getD (t .hyperedges) j noHyperedge .number
+
+-- The same computed, down to `choice`. By `lightest-is` and `lightest-only` (paths/proofs/Lightest) it is the hyperedge that `Lightest` describes.
 
 -- hyperedges by place, counted from 1; at place 0 there is none
 abbrev pub hyperedgeBy : Table → ℕ → Hyperedge

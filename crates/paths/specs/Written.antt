@@ -5,7 +5,8 @@ use mathlib.Core.List.{List, [], _∷_, map}
 use Prim.Native.Nat.{ℕ, _+_, _/_, _≤_}
 use lib.Dec.{eqb}
 use lib.ListN.{length, getD, take}
-use Rattle.lists.specs.Lists.{Below, upTo, flat, overAt}
+use Rattle.lists.specs.Lists.{upTo, flat}
+use Rattle.lists.specs.Inner.{Below, overAt}
 use Rattle.layout.specs.Content.{Table}
 use Rattle.steps.specs.Matrices.{numberOf}
 use Rattle.paths.specs.Paths.{low, high, noNumber, entriesAfter, bestPath, pathWords}

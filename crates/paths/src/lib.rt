@@ -3,7 +3,7 @@ ghost use mathlib.Core.Path.{_≡_};
 ghost use mathlib.Core.List.{[], _∷_};
 ghost use Prim.Native.Nat.{_+_, _≤_};
 ghost use lib.ListN.{length};
-ghost use Rattle.lists.specs.Lists.{overAt};
+ghost use Rattle.lists.specs.Inner.{overAt};
 
 // Two words at place `at`.
 pub fn put_two(a: u32, b: u32, at: usize, out: &mut [u32])

@@ -5,7 +5,7 @@ use mathlib.Core.List.{[]}
 use Prim.Native.Nat.{ℕ}
 use denote.Ref.{now}
 use Rattle.layout.proofs.Answers.{agree}
-use Rattle.promises.specs.Agreement.{Agrees}
+use Rattle.agreement.specs.Agreement.{Agrees}
 use Rattle.well_formed.proofs.well_formed.Kinds as well-formed
 use Rattle.well_formed.proofs.well_formed.Reads as well-formed-reads
 use Rattle.layout.proofs.reply_of.Kinds as reply-of

@@ -1,7 +1,7 @@
 -- For every call: each refusal is given then and only then, by the first of its grounds that applies, and changes no lent word. What is judged
 -- is what the call's promise says that it leaves. Assumes nothing.
 use mathlib.Core.Path.{_≡_, refl}
-use mathlib.Core.Bool.{Bool, cond}
+use mathlib.Core.Bool.{cond}
 use mathlib.Core.List.{List, [], _∷_, _++_}
 use Prim.Native.Nat.{ℕ}
 use lib.Dec.{eqb}
@@ -13,6 +13,7 @@ use Rattle.layout.specs.Content.{Table, liveVertices, liveHyperedges}
 use Rattle.layout.specs.Layout.{vertexLimit, hyperedgeLimit, limit, size, words, read}
 use Rattle.layout.specs.Answers.{Result, result, onFormed, onLive, listed, vertexMissing, hyperedgeMissing, onLiveVertices}
 use Rattle.edits.specs.Results.{addVertexResult, addHyperedgeResult, updateResult, removeVertexResult, removeHyperedgeResult, clearResult, emptyResult}
+use Rattle.lookups.specs.declared.Direction.{Direction}
 use Rattle.lookups.specs.declared.Relation.{Relation}
 use Rattle.lookups.specs.declared.Listing.the-variants.{Connecting, Weighing, Holding}
 use Rattle.lookups.specs.Lookups.{related, shared, degree, listing, fullAdjacent, verticesWeighing, hasVertexWeighing}
@@ -29,7 +30,8 @@ use Rattle.paths.specs.Paths.{pathWords, bestPath, costsFrom, pairResult, fromR
 use Rattle.walk.specs.Walk.{walk, walkResult}
 use Rattle.frames.specs.Frames.{frameText, writeResult}
 use Rattle.frames.specs.Reading.{contentOf, accepted, faultyLine, readResult}
-use Rattle.promises.specs.Refusals.{Judged, content, unformed, unsized, deadVertices, closedWalk, noRoom, addVertexGrounds, addHyperedgeGrounds, updateGrounds, vertexGrounds, hyperedgeGrounds, listingGrounds, intersectionsGrounds, sortGrounds, badText, readGrounds}
+use Rattle.sort_sheet.specs.Sheet.{sheetResult}
+use Rattle.promises.specs.Refusals.{Judged, content, unformed, unsized, deadVertices, closedWalk, noRoom, addVertexGrounds, addHyperedgeGrounds, updateGrounds, vertexGrounds, hyperedgeGrounds, listingGrounds, intersectionsGrounds, sortGrounds, badText, readGrounds, sheetGrounds}
 use Rattle.promises.proofs.Refusals.{none-refused, off-ground, live-judged, some-judged, short-judged, room-judged, number-judged, new-judged, changed-judged, several-judged, formed-judged, listed-judged}
 
 -- ---- edits
@@ -79,6 +81,16 @@ read-judged text ws =
     let twelve = off-ground [] ws done (none-refused refl) (badText text) (accepted text) refl in
     off-ground (badText text ∷ []) ws (cond (accepted text) done (result (BadText (faultyLine text)) ws)) twelve (unsized ws) (eqb (length ws) (size limit)) refl
 
+-- ---- the sort of a frame text
+
+pub sort-text-judged : (text lent : List ℕ) → Judged (sheetGrounds text lent) lent (sheetResult text lent)
+unfolding sheetResult sortResult
+sort-text-judged text lent =
+    let t = contentOf text in
+    let eleven = listed-judged (sortOf t) lent in
+    let nine = off-ground (noRoom (sortOf t) lent ∷ []) lent (listed (sortOf t) lent) eleven (closedWalk t) (acyclic t) refl in
+    off-ground (closedWalk t ∷ noRoom (sortOf t) lent ∷ []) lent (sortResult lent t) nine (badText text) (accepted text) refl
+
 -- ---- queries: what is answered after 1 is a number, or a listing, where the vertices asked are live
 
 module _ (ws : List ℕ) where
@@ -95,9 +107,9 @@ module _ (ws : List ℕ) where
     unfolding relatedResult
     related-judged how v = listing-judged (v ∷ []) (related how v (content ws)) (relatedResult how v out) refl
 
-    pub full-adjacent-judged : (arriving : Bool) (v : ℕ) → Judged (listingGrounds (v ∷ []) (fullAdjacent arriving v (content ws)) out ws) out (onFormed ws out (fullAdjacentResult arriving v out))
+    pub full-adjacent-judged : (dir : Direction) (v : ℕ) → Judged (listingGrounds (v ∷ []) (fullAdjacent dir v (content ws)) out ws) out (onFormed ws out (fullAdjacentResult dir v out))
     unfolding fullAdjacentResult
-    full-adjacent-judged arriving v = listing-judged (v ∷ []) (fullAdjacent arriving v (content ws)) (fullAdjacentResult arriving v out) refl
+    full-adjacent-judged dir v = listing-judged (v ∷ []) (fullAdjacent dir v (content ws)) (fullAdjacentResult dir v out) refl
 
     pub connecting-judged : (x y : ℕ) → Judged (listingGrounds (x ∷ []) (listing (Connecting x y) (content ws)) out ws) out (onFormed ws out (connectingResult x y out))
     unfolding listingResult
@@ -191,9 +203,9 @@ module _ (ws : List ℕ) where
   unfolding onLive
   contains-judged w = answering [] (bit (hasVertexWeighing w (content ws))) (containsResult w) refl
 
-  pub degree-judged : (arriving : Bool) (v : ℕ) → Judged (vertexGrounds (v ∷ []) ws) [] (onFormed ws [] (degreeResult arriving v))
+  pub degree-judged : (dir : Direction) (v : ℕ) → Judged (vertexGrounds (v ∷ []) ws) [] (onFormed ws [] (degreeResult dir v))
   unfolding degreeResult
-  degree-judged arriving v = answering (v ∷ []) (degree arriving v (content ws)) (degreeResult arriving v) refl
+  degree-judged dir v = answering (v ∷ []) (degree dir v (content ws)) (degreeResult dir v) refl
 
   pub reachable-judged : (x y : ℕ) → Judged (vertexGrounds (x ∷ y ∷ []) ws) [] (onFormed ws [] (reachableResult x y))
   unfolding reachableResult

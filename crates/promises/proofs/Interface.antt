@@ -6,7 +6,7 @@ use denote.Ref.{now}
 use Rattle.layout.specs.declared.Reply.{Reply}
 use Rattle.layout.specs.Answers.{Result}
 use Rattle.vaultsorrel.specs.Replies.{replied}
-use Rattle.promises.specs.Agreement.{Agrees}
+use Rattle.agreement.specs.Agreement.{Agrees}
 use Rattle.vaultsorrel.proofs.vs_add_vertex.Kinds as vs-add-vertex
 use Rattle.vaultsorrel.proofs.vs_add_vertex.Reads as vs-add-vertex-reads
 use Rattle.vaultsorrel.proofs.vs_add_hyperedge.Kinds as vs-add-hyperedge

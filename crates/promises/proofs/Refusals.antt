@@ -5,20 +5,18 @@ use mathlib.Core.List.{List, [], _∷_, _++_, map}
 use mathlib.Core.Option.{Option, some, none}
 use Prim.Native.Nat.{ℕ, suc}
 use native.Mathlib.Omega.{arith}
-use lib.Dec.{eqb, leb, ltb}
 use lib.ListN.{length}
-use borrow.Author.Tests.{le-leb, lt-leb, lt-ltb, le-ltb, ne-eqb}
 use Rattle.lists.specs.Tests.{_and_}
-use Rattle.lists.specs.Lists.{any, over, sameList}
-use Rattle.lists.proofs.Cases.{on, on-same, on-below}
+use Rattle.lists.specs.Lists.{any, over}
+use Rattle.lists.proofs.Cases.{on}
 use Rattle.layout.specs.declared.Answer.{Answer}
 use Rattle.layout.specs.declared.Answer.the-variants.{Done}
 use Rattle.layout.specs.Content.{Hyperedge, Table, isLive}
 use Rattle.layout.specs.Layout.{limit, read}
 use Rattle.layout.specs.WellFormed.{wellFormed}
-use Rattle.layout.specs.Answers.{Result, result, onFormed, onLive, listed}
-use Rattle.edits.specs.Results.{onSome, onShort, onRoom, onNumber, onNew, onChanged, identical, membersOf, lastNumber}
-use Rattle.lookups.specs.Results.{onSeveral}
+use Rattle.layout.specs.Answers.{Result, result, onFormed, onLive, fits, listed}
+use Rattle.edits.specs.Results.{hasSome, onSome, isShort, onShort, hasRoom, onRoom, isSpent, onNumber, onNew, equalsOld, onChanged, identical}
+use Rattle.lookups.specs.Results.{isFew, onSeveral}
 use Rattle.promises.specs.Refusals.{Ground, first, Judged, unformed, noMembers, missing, sameMembers, tooMany, full, spent, tooFew, noRoom, unless}
 
 -- ---- what a judged call keeps to
@@ -34,17 +32,6 @@ module _ {gs : List Ground} {lent : List ℕ} {r : Result} (j : Judged gs lent r
   -- a refusal changes neither table nor answer slice
   pub refusal-keeps : (n : ℕ) → r .number ≡ suc n → r .lent ≡ lent
   refusal-keeps n e = ap (λ (x : Result). x .lent) (only-then n e .2)
-
--- ---- the ways that a comparison goes
-
-none-or-some : (n : ℕ) → eqb n 0 ≡ not (ltb 0 n)
-none-or-some n = on-same n 0 (λ h. rw h) (λ h. rw (ne-eqb n 0 h, lt-ltb 0 n (omega (arith, h))))
-
-over-or-not : (most n : ℕ) → ltb most n ≡ not (leb n most)
-over-or-not most n = on-below most n (λ h. rw (lt-ltb most n h, lt-leb n most h)) (λ h. rw (le-ltb most n h, le-leb n most h))
-
-full-or-not : (live most : ℕ) → leb most live ≡ not (ltb live most)
-full-or-not live most = on-below live most (λ h. rw (lt-ltb live most h, lt-leb most live h)) (λ h. rw (le-ltb live most h, le-leb most live h))
 
 -- ---- one ground more
 
@@ -89,27 +76,27 @@ module _ {gs : List Ground} {lent : List ℕ} {r : Result} (j : Judged gs lent r
 
   pub some-judged : (ms : List ℕ) (d : ℕ) → Judged (noMembers ms d ∷ gs) lent (onSome ms d lent r)
   unfolding onSome
-  some-judged ms d = off-ground gs lent r j (noMembers ms d) (ltb 0 (length ms)) (none-or-some (length ms))
+  some-judged ms d = off-ground gs lent r j (noMembers ms d) (hasSome ms) refl
 
   pub short-judged : (ms : List ℕ) → Judged (tooMany ms ∷ gs) lent (onShort ms lent r)
   unfolding onShort
-  short-judged ms = off-ground gs lent r j (tooMany ms) (leb (length ms) limit) (over-or-not limit (length ms))
+  short-judged ms = off-ground gs lent r j (tooMany ms) (isShort ms) refl
 
   pub room-judged : (live most : ℕ) → Judged (full live most ∷ gs) lent (onRoom live most lent r)
   unfolding onRoom
-  room-judged live most = off-ground gs lent r j (full live most) (ltb live most) (full-or-not live most)
+  room-judged live most = off-ground gs lent r j (full live most) (hasRoom live most) refl
 
   pub number-judged : (next : ℕ) → Judged (spent next ∷ gs) lent (onNumber next lent r)
   unfolding onNumber
-  number-judged next = on-ground gs lent r j (spent next) (eqb next lastNumber) refl
+  number-judged next = on-ground gs lent r j (spent next) (isSpent next) refl
 
   pub changed-judged : (x : ℕ) (ms : List ℕ) (t : Table) → Judged (sameMembers x ms t ∷ gs) lent (onChanged x ms t lent r)
   unfolding onChanged
-  changed-judged x ms t = on-ground gs lent r j (sameMembers x ms t) (sameList ms (membersOf x (t .hyperedges))) refl
+  changed-judged x ms t = on-ground gs lent r j (sameMembers x ms t) (equalsOld x ms t) refl
 
   pub several-judged : (xs : List ℕ) → Judged (tooFew xs ∷ gs) lent (onSeveral xs lent r)
   unfolding onSeveral
-  several-judged xs = on-ground gs lent r j (tooFew xs) (ltb (length xs) 2) refl
+  several-judged xs = on-ground gs lent r j (tooFew xs) (isFew xs) refl
 
 pub formed-judged : (ws : List ℕ) (f : Table → Result) {lent : List ℕ} {gs : List Ground} → Judged gs lent (f (read limit ws)) → Judged (unformed ws ∷ gs) lent (onFormed ws lent f)
 unfolding onFormed
@@ -119,7 +106,7 @@ pub listed-judged : (xs lent : List ℕ) → Judged (noRoom xs lent ∷ []) lent
 unfolding listed
 listed-judged xs lent =
     let done = result (Done (length xs)) (over xs lent) in
-    off-ground [] lent done (none-refused refl) (noRoom xs lent) (leb (length xs) (length lent)) (over-or-not (length lent) (length xs))
+    off-ground [] lent done (none-refused refl) (noRoom xs lent) (fits xs lent) refl
 
 -- an identical one answers, and nothing behind it applies
 none-applies : (gs : List Ground) → first (map (unless true) gs) ≡ none

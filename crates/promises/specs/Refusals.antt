@@ -4,19 +4,20 @@ use mathlib.Core.Bool.{Bool, cond, not}
 use mathlib.Core.List.{List, [], _∷_, _++_, map}
 use mathlib.Core.Option.{Option, some, none}
 use Prim.Native.Nat.{ℕ}
-use lib.Dec.{eqb, leb, ltb}
+use lib.Dec.{eqb}
 use lib.ListN.{length}
 use Rattle.lists.specs.Tests.{_and_}
-use Rattle.lists.specs.Lists.{any, sameList}
+use Rattle.lists.specs.Lists.{any}
 use Rattle.layout.specs.declared.Answer.{Answer}
 use Rattle.layout.specs.declared.Answer.the-variants.{NotWellFormed, NoMembers, SameMembers, TooManyMembers, Full, NumbersSpent, ClosedWalk, TooFewHyperedges, NoRoom, BadText}
 use Rattle.layout.specs.Content.{Table, liveVertices, liveHyperedges, isLive}
 use Rattle.layout.specs.Layout.{vertexLimit, hyperedgeLimit, limit, size, read}
 use Rattle.layout.specs.WellFormed.{wellFormed}
-use Rattle.layout.specs.Answers.{Result, result, vertexMissing, hyperedgeMissing}
-use Rattle.edits.specs.Results.{lastNumber, identical, membersOf}
-use Rattle.structural.specs.Sort.{acyclic}
-use Rattle.frames.specs.Reading.{accepted, faultyLine}
+use Rattle.layout.specs.Answers.{Result, result, vertexMissing, hyperedgeMissing, fits}
+use Rattle.edits.specs.Results.{hasSome, isShort, hasRoom, isSpent, equalsOld, identical}
+use Rattle.lookups.specs.Results.{isFew}
+use Rattle.structural.specs.Sort.{sortOf, acyclic}
+use Rattle.frames.specs.Reading.{contentOf, accepted, faultyLine}
 
 -- a ground of refusal: the answer that it gives, and whether it applies
 pub record Ground : Type 0 where
@@ -45,7 +46,7 @@ unsized ws = record { answer = NotWellFormed; applies = not (eqb (length ws) (si
 
 -- 2: member list empty
 abbrev pub noMembers : List ℕ → ℕ → Ground
-noMembers ms d = record { answer = NoMembers d; applies = eqb (length ms) 0 }
+noMembers ms d = record { answer = NoMembers d; applies = not (hasSome ms) }
 
 -- what is not live, by the refusal that names it
 abbrev pub missing : List ℕ → (ℕ → Answer) → ℕ → Ground
@@ -61,19 +62,19 @@ deadHyperedges t es = map (missing (liveHyperedges t) hyperedgeMissing) es
 
 -- 5: new list equals the old
 abbrev pub sameMembers : ℕ → List ℕ → Table → Ground
-sameMembers x ms t = record { answer = SameMembers (record { 0 = x }); applies = sameList ms (membersOf x (t .hyperedges)) }
+sameMembers x ms t = record { answer = SameMembers (record { 0 = x }); applies = equalsOld x ms t }
 
 -- 6: member list over the limit
 abbrev pub tooMany : List ℕ → Ground
-tooMany ms = record { answer = TooManyMembers (length ms); applies = ltb limit (length ms) }
+tooMany ms = record { answer = TooManyMembers (length ms); applies = not (isShort ms) }
 
 -- 7: as many live as the limit
 abbrev pub full : ℕ → ℕ → Ground
-full live most = record { answer = Full; applies = leb most live }
+full live most = record { answer = Full; applies = not (hasRoom live most) }
 
 -- 8: the next number is the one that is never given
 abbrev pub spent : ℕ → Ground
-spent next = record { answer = NumbersSpent; applies = eqb next lastNumber }
+spent next = record { answer = NumbersSpent; applies = isSpent next }
 
 -- 9: steps form a closed walk
 abbrev pub closedWalk : Table → Ground
@@ -81,11 +82,11 @@ closedWalk t = record { answer = ClosedWalk; applies = not (acyclic t) }
 
 -- 10: fewer than two hyperedges to intersect
 abbrev pub tooFew : List ℕ → Ground
-tooFew es = record { answer = TooFewHyperedges; applies = ltb (length es) 2 }
+tooFew es = record { answer = TooFewHyperedges; applies = isFew es }
 
 -- 11: answer longer than the lent slice
 abbrev pub noRoom : List ℕ → List ℕ → Ground
-noRoom xs lent = record { answer = NoRoom (length xs); applies = ltb (length lent) (length xs) }
+noRoom xs lent = record { answer = NoRoom (length xs); applies = not (fits xs lent) }
 
 -- 12: frame text bad
 abbrev pub badText : List ℕ → Ground
@@ -144,3 +145,7 @@ sortGrounds xs lent ws = unformed ws ∷ closedWalk (content ws) ∷ noRoom xs l
 -- reading frames 1, 12
 abbrev pub readGrounds : List ℕ → List ℕ → List Ground
 readGrounds text ws = unsized ws ∷ badText text ∷ []
+
+-- the sort of a frame text 12, 9, 11
+abbrev pub sheetGrounds : List ℕ → List ℕ → List Ground
+sheetGrounds text lent = badText text ∷ closedWalk (contentOf text) ∷ noRoom (sortOf (contentOf text)) lent ∷ []

@@ -6,7 +6,8 @@ use native.Mathlib.Nat.{le-antisymm, suc-mul}
 use native.Mathlib.Numerals.{add-one}
 use native.Mathlib.Omega.{arith}
 use lib.ListN.{length, set}
-use Rattle.lists.specs.Lists.{over, flat, tab, Wrote}
+use Rattle.lists.specs.Lists.{over, flat, tab}
+use Rattle.lists.specs.Inner.{Wrote}
 use Rattle.lists.proofs.Flat.{flat-more}
 use Rattle.lists.proofs.Chosen.{over-none, over-more}
 use Rattle.lookups.proofs.Laid.{Laid, laid-end}

@@ -1,6 +1,6 @@
 -- Laws of the marks of all lists, and of the vertices that are left unmarked. Assumes nothing.
 use mathlib.Core.Path.{_≡_, refl, sym, ap, ap₂, _∙_}
-use mathlib.Core.Bool.{Bool, true, false, not, _||_}
+use mathlib.Core.Bool.{Bool, false, not, _||_}
 use mathlib.Core.List.{List, [], _∷_}
 use Prim.Native.Nat.{ℕ, suc, _+_, _-_, _≤_, _<_}
 use native.Mathlib.Nat.{lt-irrefl}
@@ -13,12 +13,13 @@ use Rattle.lists.specs.Lists.{any, memb, filter}
 use Rattle.lists.proofs.Cases.{on-same, eqb-comm}
 use Rattle.layout.specs.Content.{Table, liveVertices, lists}
 use Rattle.layout.specs.Layout.{vertexLimit, hyperedgeAt, membersAt, read}
-use Rattle.layout.specs.WellFormed.{Formed}
+use Rattle.layout.specs.Inner.{Formed}
 use Rattle.layout.specs.Answers.{Result, listed}
 use Rattle.layout.specs.Steps.{stepsOf}
 use Rattle.layout.proofs.Read.{live-length}
 use Rattle.marks.specs.Marks.{isMarked, marked}
 use Rattle.marks.proofs.Marked.{marked-filter}
+use Rattle.lookups.specs.declared.Direction.the-variants.{From, To}
 use Rattle.lookups.specs.Lookups.{hasEnd}
 use Rattle.lookups.specs.State.{someOf, with, noMarks, MarkedBy}
 use Rattle.lookups.proofs.Marking.{marked-as, no-marks-length}
@@ -44,14 +45,14 @@ trimmed-whole : (ms : List ℕ) → trimmed 0 0 ms ≡ ms
 trimmed-whole ms = take-all (length ms - 0 - 0) ms (omega arith)
 
 -- the members after the first are stepped to
-trimmed-later : (v : ℕ) (ms : List ℕ) → memb v (drop 1 ms) ≡ any (hasEnd true v) (stepsOf ms)
+trimmed-later : (v : ℕ) (ms : List ℕ) → memb v (drop 1 ms) ≡ any (hasEnd To v) (stepsOf ms)
 unfolding any stepsOf hasEnd
 trimmed-later v [] = refl
 trimmed-later v (x ∷ []) = refl
 trimmed-later v (x ∷ y ∷ ms) = ap₂ _||_ (eqb-comm v y) (trimmed-later v (y ∷ ms))
 
 -- the members before the last are stepped from
-trimmed-earlier : (v : ℕ) (ms : List ℕ) → memb v (take (length ms - 1) ms) ≡ any (hasEnd false v) (stepsOf ms)
+trimmed-earlier : (v : ℕ) (ms : List ℕ) → memb v (take (length ms - 1) ms) ≡ any (hasEnd From v) (stepsOf ms)
 unfolding any stepsOf hasEnd
 trimmed-earlier v [] = refl
 trimmed-earlier v (x ∷ []) = refl
@@ -66,14 +67,14 @@ module _ (t : Table) (v : ℕ) where
   unfolding inTrimmed
   listed-some = any-ext (inTrimmed 0 0 v) (lists v) (t .hyperedges) (λ e. ap (memb v) (trimmed-whole (e .members)))
 
-  stepped-to : any (inTrimmed 1 0 v) (t .hyperedges) ≡ any (stepsAt true v) (t .hyperedges)
+  stepped-to : any (inTrimmed 1 0 v) (t .hyperedges) ≡ any (stepsAt To v) (t .hyperedges)
   unfolding inTrimmed stepsAt
-  stepped-to = any-ext (inTrimmed 1 0 v) (stepsAt true v) (t .hyperedges) (λ e.
+  stepped-to = any-ext (inTrimmed 1 0 v) (stepsAt To v) (t .hyperedges) (λ e.
       ap (memb v) (take-all (length (e .members) - 0 - 1) (drop 1 (e .members)) (rw length-drop (omega arith))) ∙ trimmed-later v (e .members))
 
-  stepped-from : any (inTrimmed 0 1 v) (t .hyperedges) ≡ any (stepsAt false v) (t .hyperedges)
+  stepped-from : any (inTrimmed 0 1 v) (t .hyperedges) ≡ any (stepsAt From v) (t .hyperedges)
   unfolding inTrimmed stepsAt
-  stepped-from = any-ext (inTrimmed 0 1 v) (stepsAt false v) (t .hyperedges) (λ e.
+  stepped-from = any-ext (inTrimmed 0 1 v) (stepsAt From v) (t .hyperedges) (λ e.
       let q : length (e .members) - 1 - 0 ≡ length (e .members) - 1 = omega arith in
       ap (λ (k : ℕ). memb v (take k (e .members))) q ∙ trimmed-earlier v (e .members))
 

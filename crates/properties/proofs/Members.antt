@@ -18,7 +18,8 @@ use Rattle.lists.proofs.Stride.{stride}
 use Rattle.layout.specs.declared.Answer.the-variants.{Done}
 use Rattle.layout.specs.Content.{hyperedgeNumber}
 use Rattle.layout.specs.Layout.{limit, hyperedgeLimit, recordSize, hyperedgesAt, hyperedgeWord, hyperedgeCount, countAt, hyperedgeAt, membersAt, readHyperedges, read}
-use Rattle.layout.specs.WellFormed.{wellFormed, Formed}
+use Rattle.layout.specs.WellFormed.{wellFormed}
+use Rattle.layout.specs.Inner.{Formed}
 use Rattle.layout.specs.Answers.{result, onFormed}
 use Rattle.layout.proofs.Answers.{formed-by, on-formed, listed-fits}
 use Rattle.layout.proofs.Shape.{count-pos}

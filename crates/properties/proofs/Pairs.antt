@@ -9,9 +9,9 @@ use borrow.Author.Tests.{not-true, not-false}
 use Rattle.lists.proofs.Cases.{on}
 use Rattle.layout.specs.Content.{Hyperedge, Table}
 use Rattle.layout.specs.Layout.{hyperedgeLimit, hyperedgeCount, hyperedgeAt, read}
-use Rattle.layout.specs.WellFormed.{Formed}
+use Rattle.layout.specs.Inner.{Formed}
 use Rattle.properties.specs.Properties.{isWithin, pair, pairsOf}
-use Rattle.lists.specs.Lists.{Wrote}
+use Rattle.lists.specs.Inner.{Wrote}
 use Rattle.properties.proofs.Blocks.{flat-most, wrote-none, wrote-two}
 
 pub pair-most : (t : Table) (a b : Hyperedge) → length (pair t a b) ≤ 2

@@ -11,7 +11,8 @@ use lib.ListN.{length, getD, drop, set, length-set, length-append, getD-replicat
 use lib.Seq.{getD-set-same, getD-set-other}
 use borrow.Author.Tests.{eq-eqb, ne-eqb}
 use Rattle.lists.specs.Tests.{_and_, bit, count, chosen}
-use Rattle.lists.specs.Lists.{any, filter, flat, tab, itself, Wrote}
+use Rattle.lists.specs.Lists.{any, filter, flat, tab, itself}
+use Rattle.lists.specs.Inner.{Wrote}
 use Rattle.lists.proofs.Cases.{on, on-same, clash, and-true, and-false-left}
 use Rattle.lists.proofs.Tab.{tab-suc, drop-tab, length-tab, getD-tab}
 use Rattle.lists.proofs.Count.{bit-le, count-ext, count-below, count-none}
@@ -19,7 +20,7 @@ use Rattle.lists.proofs.Filter.{filter-snoc}
 use Rattle.lists.proofs.Flat.{flat-snoc}
 use Rattle.layout.specs.Content.{Table}
 use Rattle.layout.specs.Layout.{limit, vertexLimit, vertexCount, hyperedgeCount, vertexAt, hyperedgeAt, readHyperedges, readVertices, read}
-use Rattle.layout.specs.WellFormed.{Formed}
+use Rattle.layout.specs.Inner.{Formed}
 use Rattle.marks.specs.Marks.{isMarked}
 use Rattle.lists.proofs.Any.{any-at, any-of}
 use Rattle.lookups.specs.State.{noMarks}

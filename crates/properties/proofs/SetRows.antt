@@ -19,10 +19,10 @@ use Rattle.lists.proofs.Count.{count-ext}
 use Rattle.lists.proofs.Every.{every-at, every-of, every-end}
 use Rattle.layout.specs.Content.{liveVertices}
 use Rattle.layout.specs.Layout.{limit, vertexLimit, vertexCount, hyperedgeCount, vertexAt, hyperedgeAt, membersAt, readVertices, read}
-use Rattle.layout.specs.WellFormed.{Formed}
+use Rattle.layout.specs.Inner.{Formed}
 use Rattle.layout.proofs.Read.{live-length}
 use Rattle.marks.specs.Marks.{isMarked}
-use Rattle.steps.specs.Matrices.{cell}
+use Rattle.steps.specs.Inner.{cell}
 use Rattle.lookups.specs.State.{someOf, noMarks, MarkedBy}
 use Rattle.properties.specs.Properties.{memberSet, setSize, under, within, isWithin}
 use Rattle.properties.specs.State.{rowOf, SetOf, RowPut, Sets}

@@ -19,6 +19,7 @@ use Rattle.layout.specs.Steps.{Step, stepsOf, isStep, makesStep, hasStep}
 use Rattle.layout.proofs.Read.{numbered-ascends}
 use Rattle.steps.specs.Matrices.{numberOf}
 use Rattle.lists.proofs.Any.{any-at, any-of}
+use Rattle.lookups.specs.declared.Direction.the-variants.{From, To}
 use Rattle.lookups.specs.Lookups.{hasEnd}
 use Rattle.properties.specs.Properties.{stepsAt, isEndpoint, memberSet, within, isWithin, pair, pairsOf, inclusions, hasSize, isIncluded, includedOfSize, included}
 use Rattle.properties.proofs.Subsets.{within-at, within-of}
@@ -118,47 +119,47 @@ noStep = record { from = 0; to = 0 }
 
 module _ (t : Table) (v : ℕ) where
   -- a source has no step in, and what has none is a source
-  pub source-stepless : isEndpoint true t v ≡ true → (x : ℕ) → hasStep t x v ≡ false
+  pub source-stepless : isEndpoint To t v ≡ true → (x : ℕ) → hasStep t x v ≡ false
   unfolding isEndpoint stepsAt hasEnd hasStep makesStep isStep
   source-stepless e x =
       on (hasStep t x v)
       (λ h.
       let r = any-at (makesStep x v) (t .hyperedges) noHyperedge h in
       let s = any-at (isStep x v) (stepsOf (getD (t .hyperedges) (r .0) noHyperedge .members)) noStep (r .2) in
-      clash e (ap not (any-of (stepsAt true v) (t .hyperedges) noHyperedge (r .0) (r .1) (any-of (hasEnd true v) (stepsOf (getD (t .hyperedges) (r .0) noHyperedge .members)) noStep (s .0) (s .1) (and-right _ _ (s .2))))))
+      clash e (ap not (any-of (stepsAt To v) (t .hyperedges) noHyperedge (r .0) (r .1) (any-of (hasEnd To v) (stepsOf (getD (t .hyperedges) (r .0) noHyperedge .members)) noStep (s .0) (s .1) (and-right _ _ (s .2))))))
       (λ h. h)
 
-  pub stepless-source : ((x : ℕ) → hasStep t x v ≡ false) → isEndpoint true t v ≡ true
+  pub stepless-source : ((x : ℕ) → hasStep t x v ≡ false) → isEndpoint To t v ≡ true
   unfolding isEndpoint stepsAt hasEnd hasStep makesStep isStep
   stepless-source n =
-      on (any (stepsAt true v) (t .hyperedges))
+      on (any (stepsAt To v) (t .hyperedges))
       (λ h.
-      let r = any-at (stepsAt true v) (t .hyperedges) noHyperedge h in
+      let r = any-at (stepsAt To v) (t .hyperedges) noHyperedge h in
       let ms : List ℕ = getD (t .hyperedges) (r .0) noHyperedge .members in
-      let s = any-at (hasEnd true v) (stepsOf ms) noStep (r .2) in
+      let s = any-at (hasEnd To v) (stepsOf ms) noStep (r .2) in
       let x : ℕ = getD (stepsOf ms) (s .0) noStep .from in
       clash (any-of (makesStep x v) (t .hyperedges) noHyperedge (r .0) (r .1) (any-of (isStep x v) (stepsOf ms) noStep (s .0) (s .1) (and-both _ _ (eq-eqb x x refl) (s .2)))) (n x))
       (λ h. ap not h)
 
   -- a sink has no step out, and what has none is a sink
-  pub sink-stepless : isEndpoint false t v ≡ true → (y : ℕ) → hasStep t v y ≡ false
+  pub sink-stepless : isEndpoint From t v ≡ true → (y : ℕ) → hasStep t v y ≡ false
   unfolding isEndpoint stepsAt hasEnd hasStep makesStep isStep
   sink-stepless e y =
       on (hasStep t v y)
       (λ h.
       let r = any-at (makesStep v y) (t .hyperedges) noHyperedge h in
       let s = any-at (isStep v y) (stepsOf (getD (t .hyperedges) (r .0) noHyperedge .members)) noStep (r .2) in
-      clash e (ap not (any-of (stepsAt false v) (t .hyperedges) noHyperedge (r .0) (r .1) (any-of (hasEnd false v) (stepsOf (getD (t .hyperedges) (r .0) noHyperedge .members)) noStep (s .0) (s .1) (and-left _ _ (s .2))))))
+      clash e (ap not (any-of (stepsAt From v) (t .hyperedges) noHyperedge (r .0) (r .1) (any-of (hasEnd From v) (stepsOf (getD (t .hyperedges) (r .0) noHyperedge .members)) noStep (s .0) (s .1) (and-left _ _ (s .2))))))
       (λ h. h)
 
-  pub stepless-sink : ((y : ℕ) → hasStep t v y ≡ false) → isEndpoint false t v ≡ true
+  pub stepless-sink : ((y : ℕ) → hasStep t v y ≡ false) → isEndpoint From t v ≡ true
   unfolding isEndpoint stepsAt hasEnd hasStep makesStep isStep
   stepless-sink n =
-      on (any (stepsAt false v) (t .hyperedges))
+      on (any (stepsAt From v) (t .hyperedges))
       (λ h.
-      let r = any-at (stepsAt false v) (t .hyperedges) noHyperedge h in
+      let r = any-at (stepsAt From v) (t .hyperedges) noHyperedge h in
       let ms : List ℕ = getD (t .hyperedges) (r .0) noHyperedge .members in
-      let s = any-at (hasEnd false v) (stepsOf ms) noStep (r .2) in
+      let s = any-at (hasEnd From v) (stepsOf ms) noStep (r .2) in
       let y : ℕ = getD (stepsOf ms) (s .0) noStep .to in
       clash (any-of (makesStep v y) (t .hyperedges) noHyperedge (r .0) (r .1) (any-of (isStep v y) (stepsOf ms) noStep (s .0) (s .1) (and-both _ _ (s .2) (eq-eqb y y refl)))) (n y))
       (λ h. ap not h)

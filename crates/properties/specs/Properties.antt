@@ -1,5 +1,5 @@
 -- What each query of properties lists or tests, over a table's content. Assumes nothing.
-use mathlib.Core.Bool.{Bool, true, false, not, cond}
+use mathlib.Core.Bool.{Bool, true, not, cond}
 use mathlib.Core.List.{List, [], _∷_, _++_, map}
 use Prim.Native.Nat.{ℕ, suc}
 use lib.Dec.{eqb}
@@ -9,6 +9,8 @@ use Rattle.lists.specs.Lists.{all, any, filter, flat, counted}
 use Rattle.layout.specs.Content.{Hyperedge, Table, liveVertices, hyperedgeNumber, lists}
 use Rattle.layout.specs.Steps.{stepsOf}
 use Rattle.steps.specs.Matrices.{numberOf}
+use Rattle.lookups.specs.declared.Direction.{Direction}
+use Rattle.lookups.specs.declared.Direction.the-variants.{From, To}
 use Rattle.lookups.specs.Lookups.{hasEnd}
 
 -- ---- sets of vertices: a mark for each vertex record
@@ -63,21 +65,21 @@ uniform k t = all (hasCount k) (t .hyperedges)
 
 -- ---- endpoints
 
--- the hyperedge has a step that arrives at v, or one that leaves v
-unfoldable pub stepsAt : Bool → ℕ → Hyperedge → Bool
-stepsAt arriving v e = any (hasEnd arriving v) (stepsOf (e .members))
+-- the hyperedge has a step that leads from v, or one that leads to v
+unfoldable pub stepsAt : Direction → ℕ → Hyperedge → Bool
+stepsAt dir v e = any (hasEnd dir v) (stepsOf (e .members))
 
--- no step arrives at v, or none leaves v
-unfoldable pub isEndpoint : Bool → Table → ℕ → Bool
-isEndpoint arriving t v = not (any (stepsAt arriving v) (t .hyperedges))
+-- no step leads from v, or none leads to v
+unfoldable pub isEndpoint : Direction → Table → ℕ → Bool
+isEndpoint dir t v = not (any (stepsAt dir v) (t .hyperedges))
 
 -- the vertices with no step in, ascending
 unfoldable pub sources : Table → List ℕ
-sources t = filter (isEndpoint true t) (liveVertices t)
+sources t = filter (isEndpoint To t) (liveVertices t)
 
 -- the vertices with no step out, ascending
 unfoldable pub sinks : Table → List ℕ
-sinks t = filter (isEndpoint false t) (liveVertices t)
+sinks t = filter (isEndpoint From t) (liveVertices t)
 
 -- count, the first list, count, the second
 unfoldable pub twice : List ℕ → List ℕ → List ℕ

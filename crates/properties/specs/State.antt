@@ -10,7 +10,7 @@ use Rattle.lists.specs.Lists.{memb}
 use Rattle.layout.specs.Content.{Hyperedge, Table}
 use Rattle.layout.specs.Layout.{limit, vertexLimit, vertexCount, hyperedgeCount, hyperedgeAt, read}
 use Rattle.marks.specs.Marks.{isMarked}
-use Rattle.steps.specs.Matrices.{cell}
+use Rattle.steps.specs.Inner.{cell}
 use Rattle.properties.specs.Properties.{memberSet, setSize, isIncluded, isSize, row}
 
 -- a list without its first and its last members, so many of each

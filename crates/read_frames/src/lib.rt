@@ -1,14 +1,15 @@
 // A table read from its text.
 ghost use mathlib.Core.Path.{_≡_};
 ghost use lib.ListN.{length};
-ghost use Rattle.lists.specs.Lists.{blank};
+ghost use Rattle.lists.specs.Inner.{blank};
 ghost use Rattle.layout.specs.Layout.{limit, size};
 ghost use Rattle.layout.specs.Answers.{result};
-ghost use Rattle.frames.specs.Reading.{readResult, verticesDue};
+ghost use Rattle.frames.specs.Frames.{headLength};
+ghost use Rattle.frames.specs.Reading.{readResult, verticesDue, vertexPlace};
 ghost use Rattle.reader.specs.Lines.{Valued};
 ghost use Rattle.reader.specs.Passes.{storedRead, answerOf, HeadStored, HeadMade, VerticesMade, TextRead};
 ghost use Rattle.reader.specs.Hyperedges.{VerticesStored};
-use head_line::head_good;
+use head_line::head_end;
 use head_line::put_head;
 use hyperedge_lines::read_hyperedges;
 use layout::Answer;
@@ -60,15 +61,16 @@ pub fn read_frames(t: &mut [u32], text: &[u8]) -> Answer
     answer_of(line)
 }
 
-// The hyperedges and the end of the text, behind a good head and n good vertices.
-fn read_rest(words: &mut [u32], values: &[u16; 256], text: &[u8], n: usize) -> usize
+// The hyperedges and the end of the text, behind a good head and n good vertices, whose lines end at the place.
+fn read_rest(words: &mut [u32], values: &[u16; 256], text: &[u8], n: usize, place: usize) -> usize
     requires { ⌜ Valued (now values) ⌝ }
     requires { ⌜ VerticesStored (now text) (now words) ⌝ }
     requires { ⌜ VerticesMade (now text) (now words) × (n ≡ verticesDue (now text)) ⌝ }
+    requires { ⌜ place ≡ vertexPlace (verticesDue (now text)) ⌝ }
     ensures { λ r. ⌜ TextRead (now (text .entry)) (now (words .exit)) r ⌝ }
 {
     let m = layout::hyperedge_count(words);
-    let walked = read_hyperedges(words, values, text);
+    let walked = read_hyperedges(words, values, text, place);
     if walked.lines < m {
         return 2 + n + walked.lines;
     }
@@ -78,19 +80,19 @@ fn read_rest(words: &mut [u32], values: &[u16; 256], text: &[u8], n: usize) -> u
     0
 }
 
-// The vertices and what comes behind them, behind a good head.
-fn read_records(words: &mut [u32], values: &[u16; 256], text: &[u8]) -> usize
+// The vertices and what comes behind them, behind a good head, whose line ends at the place.
+fn read_records(words: &mut [u32], values: &[u16; 256], text: &[u8], place: usize) -> usize
     requires { ⌜ Valued (now values) ⌝ }
     requires { ⌜ HeadStored (now text) (now words) ⌝ }
-    requires { ⌜ HeadMade (now text) (now words) ⌝ }
+    requires { ⌜ HeadMade (now text) (now words) × (place ≡ headLength) ⌝ }
     ensures { λ r. ⌜ TextRead (now (text .entry)) (now (words .exit)) r ⌝ }
 {
     let n = layout::vertex_count(words);
-    let i = read_vertices(words, values, text);
-    if i < n {
-        return 2 + i;
+    let walked = read_vertices(words, values, text, place);
+    if walked.lines < n {
+        return 2 + walked.lines;
     }
-    read_rest(words, values, text, n)
+    read_rest(words, values, text, n, walked.at)
 }
 
 // The number of the faulty line, or 0; then the words are those of the text's content.
@@ -99,9 +101,10 @@ fn read_text(words: &mut [u32], text: &[u8]) -> usize
     ensures { λ r. ⌜ TextRead (now (text .entry)) (now (words .exit)) r ⌝ }
 {
     let values = value_table();
-    if !head_good(&values, text) {
+    let end = head_end(&values, text);
+    if end == 0 {
         return 1;
     }
     put_head(words, &values, text);
-    read_records(words, &values, text)
+    read_records(words, &values, text, end)
 }

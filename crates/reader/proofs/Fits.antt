@@ -9,16 +9,16 @@ use Rattle.layout.specs.Layout.{vertexLimit, hyperedgeLimit}
 use Rattle.reader.specs.Lines.{countsFit, numberFits}
 
 module _ (n m x y : ℕ) where
-  pub counts-many : 256 < n → false ≡ countsFit n m x y
+  pub counts-many : vertexLimit < n → false ≡ countsFit n m x y
   unfolding countsFit _and_
   counts-many h = rw (lt-leb n vertexLimit h)
 
-  module _ (a : n ≤ 256) where
-    pub counts-many-more : 192 < m → false ≡ countsFit n m x y
+  module _ (a : n ≤ vertexLimit) where
+    pub counts-many-more : hyperedgeLimit < m → false ≡ countsFit n m x y
     unfolding countsFit _and_
     counts-many-more h = rw (le-leb n vertexLimit a, lt-leb m hyperedgeLimit h)
 
-    module _ (b : m ≤ 192) where
+    module _ (b : m ≤ hyperedgeLimit) where
       pub counts-few : x < n → false ≡ countsFit n m x y
       unfolding countsFit _and_
       counts-few h = rw (le-leb n vertexLimit a, le-leb m hyperedgeLimit b, lt-leb n x h)

@@ -11,15 +11,16 @@ use Rattle.lists.specs.Tests.{_and_}
 use Rattle.lists.specs.Lists.{all, isBelow, flat}
 use Rattle.lists.proofs.Cases.{on, clash, and-left, and-right, and-both}
 use Rattle.layout.specs.Layout.{limit, size, vertexLimit, hyperedgeLimit}
-use Rattle.frames.specs.Frames.{byteValues, numberBytes, shortBytes, headMark, headFrame, sealed, digit, byteDigits, digits, line}
+use Rattle.frames.specs.Frames.{byteValues, numberBytes, shortBytes, headMark, headFrame, sealed, digit, byteDigits, digits, line, headLength}
 use Rattle.frames.specs.Put.{Put}
 use Rattle.frames.specs.Reading.{nextVertexOf, nextHyperedgeOf, verticesDue, hyperedgesDue, standsAt, headGood}
 use Rattle.frames.specs.Bytes.{bytesAt}
 use Rattle.frames.proofs.Laws.{put-length, put-append, put-as}
 use Rattle.frames.proofs.Lines.{opening}
 use Rattle.frames.proofs.Parse.{bytes-append, bytes-front, short-bytes, number-bytes, digits-bytes, stands-eq, stands-by, number-low, short-low}
-use Rattle.reader.specs.Lines.{sealedAt, Sealed, countsFit}
+use Rattle.reader.specs.Lines.{behind, sealedAt, Sealed, countsFit}
 use Rattle.reader.specs.Passes.{HeadStored, headWords}
+use Rattle.reader.proofs.Ends.{behind-failed, stays-failed, goes-passed}
 use Rattle.reader.proofs.Frame.{sealed-is, number-word-at}
 use Rattle.reader.proofs.Records.{frame-sealed, frame-stands}
 use Rattle.reader.proofs.Puts.{put-in}
@@ -75,11 +76,14 @@ module _ (text : List ℕ) where
   unfolding frame headFrame numberBytes shortBytes
   head-stands s o = frame-stands text 0 frame (s .is) (head-is s o)
 
-  pub head-unsealed : (r : Bool) → r ≡ sealedAt text 0 16 → not r ≡ true → false ≡ headGood text
-  unfolding headGood frame _and_
-  head-unsealed r e n = on (standsAt text 0 (line frame))
-      (λ st. clash (head-parts st .0) (sym e ∙ not-true r n))
-      (λ st. rw st)
+  good-sealed : headGood text ≡ true → sealedAt text 0 16 ≡ true
+  unfolding headGood frame
+  good-sealed g = head-parts (and-left _ _ g) .0
+
+  pub head-unsealed : (r : ℕ) → r ≡ behind (sealedAt text 0 16) 0 headLength → r ≡ 0 → 0 ≡ behind (headGood text) 0 headLength
+  head-unsealed r e q = on (headGood text)
+      (λ g. clash (good-sealed g) (stays-failed 0 headLength (sealedAt text 0 16) r e (omega arith) q))
+      (λ g. behind-failed 0 headLength (headGood text) (sym g))
 
   pub head-other : (r : Bool) → r ≡ standsAt text 0 opening → not r ≡ true → false ≡ headGood text
   unfolding headGood frame _and_
@@ -95,12 +99,11 @@ module _ (text : List ℕ) where
 
   -- ---- what a good head is known to be
 
-  pub head-framed : (r : Bool) → r ≡ headGood text → not r ≡ false → Sealed text 0 16
-  unfolding headGood frame
-  head-framed r e n = sealed-is text 0 16 (head-parts (and-left _ _ (sym e ∙ not-false r n)) .0)
+  pub head-framed : (r : ℕ) → r ≡ behind (headGood text) 0 headLength → (r ≡ 0 → ⊥) → Sealed text 0 16
+  head-framed r e n = sealed-is text 0 16 (good-sealed (goes-passed 0 headLength (headGood text) r e n))
 
-  pub head-room : headGood text ≡ true → 33 ≤ length text
-  head-room g = omega (arith, head-framed true (sym g) refl .room)
+  pub head-room : headGood text ≡ true → headLength ≤ length text
+  head-room g = omega (arith, sealed-is text 0 16 (good-sealed g) .room)
 
   pub vertices-few : headGood text ≡ true → verticesDue text ≤ vertexLimit
   unfolding headGood

@@ -15,14 +15,15 @@ use Rattle.lists.proofs.Tab.{length-tab}
 use Rattle.layout.specs.Content.{isLive, membersLive}
 use Rattle.layout.specs.Layout.{limit}
 use Rattle.layout.specs.WellFormed.{countFits}
-use Rattle.frames.specs.Frames.{byteValues, numberBytes, hyperedgeFrame, hyperedgeLine, sealed}
+use Rattle.frames.specs.Frames.{byteValues, numberBytes, hyperedgeFrame, hyperedgeLine, hyperedgeLength, sealed}
 use Rattle.frames.specs.Reading.{byteAt, numberIn, weightIn, countIn, memberIn, hyperedgeFrom, standsAt}
 use Rattle.frames.specs.Bytes.{bytesAt}
 use Rattle.frames.proofs.Parse.{bytes-at, bytes-append, bytes-front, number-bytes, members-bytes, number-low}
 use Rattle.frames.proofs.Text.{numbers-length}
-use Rattle.reader.specs.Lines.{sealedAt, Sealed, numberFits}
+use Rattle.reader.specs.Lines.{behind, sealedAt, Sealed, numberFits}
 use Rattle.reader.specs.Hyperedges.{hyperedgeFits}
-use Rattle.reader.proofs.Frame.{sealed-is}
+use Rattle.reader.proofs.Ends.{stays-failed, goes-by}
+use Rattle.reader.proofs.Frame.{sealed-is, sealed-by}
 use Rattle.reader.proofs.Records.{frame-sealed, frame-stands, within, first}
 
 -- ---- the bytes of a hyperedge's frame
@@ -105,9 +106,12 @@ module _ (text : List ℕ) (p : ℕ) where
 
 -- ---- which lines fit, from what the code found
 
-pub fits-seal : (text : List ℕ) (p k : ℕ) (r : Bool) → r ≡ sealedAt text p (11 + k * 4) → not r ≡ false → k ≡ countIn text p → (k ≡ 0 → ⊥) → k ≤ 32
-    → Sealed text p (11 + k * 4) × ((k ≡ countIn text p) × ((0 < k) × (k ≤ limit)))
-fits-seal text p k r q n e z l = (sealed-is text p (11 + k * 4) (sym q ∙ not-false r n), (e, (omega arith, l)))
+module _ (text : List ℕ) (p k r : ℕ) (q : r ≡ behind (sealedAt text p (11 + k * 4)) p ((11 + k * 4) * 2 + 1)) (n : r ≡ p → ⊥) where
+  pub fits-seal : k ≡ countIn text p → (k ≡ 0 → ⊥) → k ≤ limit → Sealed text p (11 + k * 4) × ((k ≡ countIn text p) × ((0 < k) × (k ≤ limit)))
+  fits-seal e z l = (sealed-by text p (11 + k * 4) r q n, (e, (omega arith, l)))
+
+  pub frame-behind : r ≡ p + hyperedgeLength k
+  frame-behind = goes-by p ((11 + k * 4) * 2 + 1) (sealedAt text p (11 + k * 4)) r q n ∙ omega arith
 
 module _ (text : List ℕ) (p low high : ℕ) (live : List ℕ) where
   abbrev line-is : Bool
@@ -151,11 +155,14 @@ module _ (text : List ℕ) (p low high : ℕ) (live : List ℕ) where
     pub fits-empty : k ≡ 0 → false ≡ hyperedgeFits text p low high live
     fits-empty z = unless (λ f. omega (arith, fits-counted f .0))
 
-    pub fits-many : 32 < k → false ≡ hyperedgeFits text p low high live
+    pub fits-many : limit < k → false ≡ hyperedgeFits text p low high live
     fits-many m = unless (λ f. omega (arith, fits-counted f .1))
 
-    pub fits-unsealed : (r : Bool) → p ≤ length text → r ≡ sealedAt text p (11 + k * 4) → not r ≡ true → false ≡ hyperedgeFits text p low high live
-    fits-unsealed r h q n = unless (λ f. true≢false (sym (fits-sealed h f .0) ∙ ap (λ (x : ℕ). sealedAt text p (11 + x * 4)) (sym e) ∙ sym q ∙ not-true r n))
+    pub fits-unsealed : (r : ℕ) → p ≤ length text → r ≡ behind (sealedAt text p (11 + k * 4)) p ((11 + k * 4) * 2 + 1) → r ≡ p
+        → false ≡ hyperedgeFits text p low high live
+    fits-unsealed r h q s = unless (λ f.
+        true≢false (sym (fits-sealed h f .0) ∙ ap (λ (x : ℕ). sealedAt text p (11 + x * 4)) (sym e)
+        ∙ stays-failed p ((11 + k * 4) * 2 + 1) (sealedAt text p (11 + k * 4)) r q (omega arith) s))
 
     module _ (s : Sealed text p (11 + k * 4)) where
       pub fits-other : (b : ℕ) → b ≡ byteAt text p → (b ≡ 2 → ⊥) → false ≡ hyperedgeFits text p low high live

@@ -1,50 +1,42 @@
 -- The hyperedge lines: what a pass over them has judged and stored. Assumes nothing.
 use mathlib.Core.Path.{_≡_, refl, sym, ap, _∙_}
-use mathlib.Core.Bool.{Bool, true, false, not, cond}
+use mathlib.Core.Bool.{Bool, true, false, not}
 use mathlib.Core.List.{List}
 use Prim.Native.Nat.{ℕ, _+_, _*_, _-_, _≤_, _<_}
 use native.Mathlib.Numerals.{add-one}
 use native.Mathlib.Omega.{arith}
 use lib.ListN.{length, getD, take}
 use borrow.Author.Tests.{not-true, not-false}
-use Rattle.lists.specs.Tests.{_and_, every}
+use Rattle.lists.specs.Tests.{every}
 use Rattle.lists.specs.Lists.{all, tab, pad, flat}
-use Rattle.lists.proofs.Cases.{on, and-both}
+use Rattle.lists.proofs.Cases.{and-both}
 use Rattle.lists.proofs.Tab.{tab-ext, tab-suc}
 use Rattle.lists.proofs.Flat.{flat-snoc}
 use Rattle.layout.specs.Content.{isLive, liveVertices}
 use Rattle.layout.specs.Layout.{limit, hyperedgeLimit, recordSize, hyperedgesAt, vertexWord, vertexCount, hyperedgeCount, nextHyperedgeIn, hyperedgeWords}
-use Rattle.layout.specs.WellFormed.{vertexColumn}
+use Rattle.layout.specs.Inner.{vertexColumn}
+use Rattle.frames.specs.Frames.{hyperedgeLength}
 use Rattle.frames.specs.Put.{Put}
 use Rattle.frames.specs.Reading.{nextHyperedgeOf, verticesDue, hyperedgesDue, vertexPlace, byteAt, numberIn, countIn, memberIn, hyperedgePlace, hyperedgeFrom, hyperedgeIn, hyperedgeNumberIn, hyperedgeGood, contentOf}
 use Rattle.frames.proofs.Laws.{put-length, put-append, put-as}
 use Rattle.frames.proofs.Lines.{put-none}
-use Rattle.reader.specs.Lines.{Sealed, lowest, numberFits}
+use Rattle.reader.specs.Lines.{behind, Sealed, lowest, numberFits}
 use Rattle.reader.specs.Passes.{Live}
 use Rattle.reader.specs.Hyperedges.{hyperedgeFits, VerticesStored, HyperedgeRead, HyperedgesRead}
+use Rattle.reader.proofs.Ends.{behind-failed, behind-passed, stays-failed, goes-passed, goes-by}
 use Rattle.reader.proofs.Numbers.{number-good, lowest-next}
 use Rattle.reader.proofs.HeadLine.{hyperedges-few, hyperedges-given}
-use Rattle.reader.proofs.HyperedgeLine.{fits-framed, fits-counted, fits-rest}
+use Rattle.reader.proofs.HyperedgeLine.{fits-framed, fits-rest}
 use Rattle.reader.proofs.Words.{list-front}
 use Rattle.reader.proofs.Puts.{put-before}
 
 -- ---- one line
 
-pub line-unfit : (text : List ℕ) (p low high to : ℕ) (ws : List ℕ) → false ≡ hyperedgeFits text p low high (vertexColumn ws) → HyperedgeRead text p low high to ws ws 0
+pub line-unfit : (text : List ℕ) (p low high to : ℕ) (ws : List ℕ) → false ≡ hyperedgeFits text p low high (vertexColumn ws) → HyperedgeRead text p low high to ws ws p
 line-unfit text p low high to ws e = record {
-  judged = sym (ap (λ (b : Bool). cond b (countIn text p) 0) (sym e));
-  small = omega arith;
+  judged = behind-failed p (hyperedgeLength (countIn text p)) _ e;
   kept = λ z. refl;
-  put = λ z. absurd (omega arith);
-}
-
-pub line-stored : (text : List ℕ) (p low high : ℕ) (ws : List ℕ) {to k q : ℕ} {later : List ℕ} → true ≡ hyperedgeFits text p low high (vertexColumn ws) → k ≡ countIn text p
-    → Put to (recordSize limit) (hyperedgeWords limit (hyperedgeFrom text p)) ws later q → HyperedgeRead text p low high to ws later k
-line-stored text p low high ws e f g = record {
-  judged = f ∙ sym (ap (λ (b : Bool). cond b (countIn text p) 0) (sym e));
-  small = rw f (fits-counted text p low high (vertexColumn ws) (sym e) .1);
-  kept = λ z. absurd (omega (arith, fits-counted text p low high (vertexColumn ws) (sym e) .0));
-  put = λ z. rw (← g .reached) g;
+  put = λ n. absurd (n refl);
 }
 
 -- the line is a frame of k members, which are the list, with 0 behind them; t is what the code found of those
@@ -55,35 +47,36 @@ module _ (text : List ℕ) (p low high : ℕ) (ws : List ℕ) (k : ℕ) (list : 
   listed : t ≡ hyperedgeFits text p low high (vertexColumn ws)
   listed = fits-rest text p low high (vertexColumn ws) k e s b x r t some few eb two ex er nr (et ∙ ap (all (isLive (vertexColumn ws))) (list-front (memberIn text p) k list l few))
 
-  pub line-dead : (to : ℕ) → not t ≡ true → HyperedgeRead text p low high to ws ws 0
+  pub line-dead : (to : ℕ) → not t ≡ true → HyperedgeRead text p low high to ws ws p
   line-dead to n = line-unfit text p low high to ws (sym (not-true t n) ∙ listed)
 
-  pub line-live : {to q : ℕ} {later : List ℕ} → not t ≡ false → Put to (recordSize limit) (hyperedgeWords limit (hyperedgeFrom text p)) ws later q
-      → HyperedgeRead text p low high to ws later k
-  line-live n f = line-stored text p low high ws (sym (not-false t n) ∙ listed) e f
+  pub line-live : {to q end : ℕ} {later : List ℕ} → not t ≡ false → Put to (recordSize limit) (hyperedgeWords limit (hyperedgeFrom text p)) ws later q
+      → end ≡ p + hyperedgeLength k → HyperedgeRead text p low high to ws later end
+  line-live {end = end} n f g = record {
+    judged =
+        behind-passed p (hyperedgeLength (countIn text p)) _ end (sym (not-false t n) ∙ listed)
+        (g ∙ ap (λ (j : ℕ). p + hyperedgeLength j) e);
+    kept = λ z. absurd (omega arith);
+    put = λ z. rw (← f .reached) f;
+  }
 
 -- what is known of a line that was read
-module _ {text : List ℕ} {p low high to : ℕ} {ws later : List ℕ} {k : ℕ} (h : HyperedgeRead text p low high to ws later k) where
+module _ {text : List ℕ} {p low high to : ℕ} {ws later : List ℕ} {r : ℕ} (h : HyperedgeRead text p low high to ws later r) where
   abbrev fits : Bool
   fits = hyperedgeFits text p low high (vertexColumn ws)
 
-  judged-as : (b : Bool) → fits ≡ b → k ≡ cond b (countIn text p) 0
-  judged-as b f = h .judged ∙ ap (λ (t : Bool). cond t (countIn text p) 0) f
+  read-none : r ≡ p → fits ≡ false
+  read-none z = stays-failed p (hyperedgeLength (countIn text p)) fits r (h .judged) (omega arith) z
 
-  read-none : k ≡ 0 → fits ≡ false
-  read-none z = on fits
-      (λ f. absurd (omega (arith, judged-as true f, fits-counted text p low high (vertexColumn ws) f .0)))
-      (λ f. f)
-
-  module _ (z : k ≡ 0 → ⊥) where
+  module _ (n : r ≡ p → ⊥) where
     read-fits : fits ≡ true
-    read-fits = on fits (λ f. f) (λ f. absurd (z (judged-as false f)))
+    read-fits = goes-passed p (hyperedgeLength (countIn text p)) fits r (h .judged) n
 
-    read-count : k ≡ countIn text p
-    read-count = judged-as true read-fits
+    read-behind : r ≡ p + hyperedgeLength (countIn text p)
+    read-behind = goes-by p (hyperedgeLength (countIn text p)) fits r (h .judged) n
 
-    read-framed : p ≤ length text → Sealed text p (11 + k * 4)
-    read-framed l = rw read-count (fits-framed text p low high (vertexColumn ws) l read-fits)
+    read-framed : p ≤ length text → Sealed text p (11 + countIn text p * 4)
+    read-framed l = fits-framed text p low high (vertexColumn ws) l read-fits
 
     pub read-room : p ≤ length text → p + 2 + 8 ≤ length text
     read-room l = omega (arith, read-framed l .room)
@@ -125,7 +118,7 @@ pub record HyperedgesSo (text before after : List ℕ) (low at to i : ℕ) : Typ
   pub live : Live after
   pub same : vertexColumn after ≡ liveVertices (contentOf text)
 
-pub hyperedges-none : (text ws : List ℕ) (p : ℕ) → VerticesStored text ws → p ≡ vertexPlace (verticesDue text) → HyperedgesSo text ws ws 0 p 516 0
+pub hyperedges-none : (text ws : List ℕ) (p : ℕ) → VerticesStored text ws → p ≡ vertexPlace (verticesDue text) → HyperedgesSo text ws ws 0 p hyperedgesAt 0
 unfolding every lowest hyperedgePlace tab flat
 hyperedges-none text ws p v e = record {
   some = omega arith;
@@ -134,7 +127,7 @@ hyperedges-none text ws p v e = record {
   place = e;
   within = omega (arith, v .within);
   word = refl;
-  put = put-none 516 ws (omega (arith, v .live .sized));
+  put = put-none hyperedgesAt ws (omega (arith, v .live .sized));
   live = v .live;
   same = v .same;
 }
@@ -148,9 +141,13 @@ hyperedges-end v = record {
   put = rw (← v .word) (v .put);
 }
 
-place-next : (text : List ℕ) (i p k : ℕ) → p ≡ hyperedgePlace text i → k ≡ countIn text p → p + (23 + k * 8) ≡ hyperedgePlace text (i + 1)
+pub hyperedges-stop : {text before after later : List ℕ} {low high at to i end : ℕ} → HyperedgesSo text before after low at to i
+    → HyperedgeRead text at low high to after later end → end ≡ at → HyperedgesRead text (hyperedgesDue text) before later i at
+hyperedges-stop v h z = rw (h .kept z) (hyperedges-end v)
+
+place-next : (text : List ℕ) (i p : ℕ) → p ≡ hyperedgePlace text i → p + hyperedgeLength (countIn text p) ≡ hyperedgePlace text (i + 1)
 unfolding hyperedgePlace
-place-next text i p k e f = rw (add-one i, ← e, ← f)
+place-next text i p e = rw (add-one i, ← e)
 
 module _ (text : List ℕ) (m next : ℕ) (em : m ≡ hyperedgesDue text) (ex : next ≡ nextHyperedgeOf text) (given : m ≤ next) where
   hyperedge-judged : (i : ℕ)
@@ -159,26 +156,24 @@ module _ (text : List ℕ) (m next : ℕ) (em : m ≡ hyperedgesDue text) (ex : 
   hyperedge-judged i = rw (← em, ← ex, number-good (hyperedgeNumberIn text) m next i given)
 
   module _ {before after : List ℕ} {low at to i : ℕ} (v : HyperedgesSo text before after low at to i)
-      {later : List ℕ} {k : ℕ} (h : HyperedgeRead text at low (next - (m - i)) to after later k) where
+      {later : List ℕ} {end : ℕ} (h : HyperedgeRead text at low (next - (m - i)) to after later end) where
     found : fits h ≡ hyperedgeGood text i
     found = rw (v .place, v .least, v .same) (hyperedge-judged i)
 
-    pub hyperedges-stop : k ≡ 0 → HyperedgesRead text (hyperedgesDue text) before later i at
-    hyperedges-stop z = rw (h .kept z) (hyperedges-end v)
-
-    pub hyperedges-bad : k ≡ 0 → hyperedgeGood text i ≡ false
+    pub hyperedges-bad : end ≡ at → hyperedgeGood text i ≡ false
     hyperedges-bad z = sym found ∙ read-none h z
 
-    pub hyperedges-more : {x : ℕ} → (k ≡ 0 → ⊥) → i < m → x ≡ numberIn text at → HyperedgesSo text before later (x + 1) (at + (23 + k * 8)) (to + 35) (i + 1)
+    pub hyperedges-more : {x : ℕ} → (end ≡ at → ⊥) → i < m → x ≡ numberIn text at
+        → HyperedgesSo text before later (x + 1) end (to + recordSize limit) (i + 1)
     unfolding every
     hyperedges-more z l exn =
-        let f = h .put (omega arith) in
+        let f = h .put z in
         record {
           some = omega arith;
           good = rw (add-one i) (and-both _ _ (v .good) (sym found ∙ read-fits h z));
           least = lowest-next (hyperedgeNumberIn text) i _ (exn ∙ ap (numberIn text) (v .place));
-          place = place-next text i at k (v .place) (read-count h z);
-          within = omega (arith, read-framed h z (v .within) .room);
+          place = read-behind h z ∙ place-next text i at (v .place);
+          within = omega (arith, read-behind h z, read-framed h z (v .within) .room);
           word = omega (arith, v .word);
           put = put-as (omega arith)
               (sym (flat-snoc (hyperedgeWords limit) (tab (hyperedgeIn text) i) (hyperedgeIn text i))
@@ -191,15 +186,12 @@ module _ (text : List ℕ) (m next : ℕ) (em : m ≡ hyperedgesDue text) (ex : 
 pub hyperedges-over : (text : List ℕ) (m i : ℕ) → m ≡ hyperedgesDue text → m ≤ i → i < hyperedgesDue text → hyperedgeGood text i ≡ false
 hyperedges-over text m i e h l = absurd (omega arith)
 
-pub hyperedges-word : {text before after : List ℕ} {low at to i m : ℕ} → HyperedgesSo text before after low at to i → i < m → m ≤ 192 → to + 35 ≤ length after
+pub hyperedges-word : {text before after : List ℕ} {low at to i m : ℕ} → HyperedgesSo text before after low at to i → i < m → m ≤ hyperedgeLimit → to + recordSize limit ≤ length after
 hyperedges-word v l h = omega (arith, v .word, v .live .sized)
 
 -- ---- the head's numbers, as they stand in the words
 
 module _ {text ws : List ℕ} (v : VerticesStored text ws) where
-  pub stored-place : (n : ℕ) → n ≡ vertexCount ws → 33 + n * 21 ≡ vertexPlace (verticesDue text)
-  stored-place n e = ap vertexPlace (e ∙ v .head .vertices)
-
   module _ (m : ℕ) (e : m ≡ hyperedgeCount ws) where
     pub stored-due : m ≡ hyperedgesDue text
     stored-due = e ∙ v .head .hyperedges

@@ -14,7 +14,7 @@ use Rattle.layout.specs.declared.Found.{Found}
 use Rattle.layout.specs.declared.Found.the-variants.{At, Nothing}
 use Rattle.layout.specs.Content.{position, isLive}
 use Rattle.layout.specs.Layout.{verticesAt, vertexSize, vertexWord, vertexCount, nextVertexIn}
-use Rattle.layout.specs.WellFormed.{column, vertexColumn}
+use Rattle.layout.specs.Inner.{column, vertexColumn}
 use Rattle.layout.proofs.Position.{found-live, missing-dead, dense-live}
 use Rattle.reader.specs.Passes.{Live}
 

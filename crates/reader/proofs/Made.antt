@@ -5,7 +5,8 @@ use Prim.Native.Nat.{ℕ, _+_, _-_, _*_, _≤_}
 use native.Mathlib.Omega.{arith}
 use lib.ListN.{length, drop, replicate, length-append, length-replicate, replicate-append-replicate}
 use lib.Seq.{take-at, drop-at, drop-append-add}
-use Rattle.lists.specs.Lists.{tab, flat, pad, blank, overAt}
+use Rattle.lists.specs.Lists.{tab, flat, pad}
+use Rattle.lists.specs.Inner.{blank, overAt}
 use Rattle.lists.proofs.Tab.{length-tab}
 use Rattle.lists.proofs.Flat.{flat-length, length-pad}
 use Rattle.lists.proofs.OverAt.{over-at-split}

@@ -1,23 +1,24 @@
 -- The lines of records: what the tests say of what the writer gives. Assumes nothing.
 use mathlib.Core.Path.{_≡_, refl, sym, ap, ap₂, _∙_}
-use mathlib.Core.Bool.{Bool, true, false, not}
+use mathlib.Core.Bool.{Bool, true, false}
 use mathlib.Core.List.{List, _∷_, _++_}
 use Prim.Native.Nat.{ℕ, suc, _+_, _*_, _%_, _≤_}
 use native.Mathlib.Nat.{add-zero}
 use native.Mathlib.Omega.{arith}
 use lib.ListN.{length, getD}
-use borrow.Author.Tests.{le-leb, leb-true, eq-eqb, eqb-true, not-true, not-false}
+use borrow.Author.Tests.{le-leb, leb-true, eq-eqb, eqb-true}
 use Rattle.lists.proofs.All.{all-join}
 use Rattle.lists.specs.Tests.{_and_}
 use Rattle.lists.specs.Lists.{all, isBelow}
 use Rattle.lists.proofs.Cases.{on, clash, and-left, and-right, and-both}
 use Rattle.layout.specs.Content.{vertexOf}
-use Rattle.frames.specs.Frames.{byteValues, numberBytes, vertexFrame, byteSum, sealed, line, vertexLine}
+use Rattle.frames.specs.Frames.{byteValues, numberBytes, vertexFrame, byteSum, sealed, line, vertexLine, vertexLength}
 use Rattle.frames.specs.Reading.{byteAt, numberAt, numberIn, weightIn, standsAt}
 use Rattle.frames.specs.Bytes.{bytesAt}
 use Rattle.frames.proofs.Lines.{sealed-sum}
 use Rattle.frames.proofs.Parse.{bytes-at, bytes-append, bytes-front, number-bytes, line-stands, line-parts, sealed-low, number-low}
-use Rattle.reader.specs.Lines.{sealedAt, Sealed, numberFits, vertexFits}
+use Rattle.reader.specs.Lines.{behind, sealedAt, Sealed, numberFits, vertexFits}
+use Rattle.reader.proofs.Ends.{behind-failed, stays-failed, goes-passed}
 use Rattle.reader.proofs.Frame.{sealed-is}
 
 -- a frame of bytes: its line stands exactly where the test of a frame passes, and its bytes are those
@@ -75,11 +76,16 @@ module _ (text : List ℕ) (p low high : ℕ) where
   unfolding vertexLine vertex-bytes vertexFrame numberBytes
   vertex-stands s e = frame-stands text p vertex-bytes (s .is) (vertex-is s e)
 
-  pub vertex-unsealed : (r : Bool) → p ≤ length text → r ≡ sealedAt text p 10 → not r ≡ true → false ≡ vertexFits text p low high
-  unfolding vertexFits _and_
-  vertex-unsealed r h e n = on (standsAt text p (vertexLine (vertexOf (numberIn text p) (weightIn text p))))
-      (λ st. clash (vertex-sealed h st .0) (sym e ∙ not-true r n))
-      (λ st. rw st)
+  -- a vertex that fits has a frame
+  fits-sealed : p ≤ length text → vertexFits text p low high ≡ true → sealedAt text p 10 ≡ true
+  unfolding vertexFits
+  fits-sealed h f = vertex-sealed h (and-left _ _ f) .0
+
+  pub vertex-unsealed : (r : ℕ) → p ≤ length text → r ≡ behind (sealedAt text p 10) p vertexLength → r ≡ p
+      → p ≡ behind (vertexFits text p low high) p vertexLength
+  vertex-unsealed r h e q = on (vertexFits text p low high)
+      (λ f. clash (fits-sealed h f) (stays-failed p vertexLength (sealedAt text p 10) r e (omega arith) q))
+      (λ f. behind-failed p vertexLength (vertexFits text p low high) (sym f))
 
   pub vertex-other : (b : ℕ) → Sealed text p 10 → b ≡ byteAt text p → (b ≡ 1 → ⊥) → false ≡ vertexFits text p low high
   unfolding vertexFits _and_
@@ -91,10 +97,9 @@ module _ (text : List ℕ) (p low high : ℕ) where
   unfolding vertexFits _and_
   vertex-rest b x r s e o q f = rw (vertex-stands s (sym e ∙ o)) (f ∙ ap (λ (y : ℕ). numberFits y low high) q)
 
-  -- a vertex that fits has a frame
-  pub vertex-framed : (r : Bool) → p ≤ length text → r ≡ vertexFits text p low high → not r ≡ false → Sealed text p 10
-  unfolding vertexFits
-  vertex-framed r h e n = sealed-is text p 10 (vertex-sealed h (and-left _ _ (sym e ∙ not-false r n)) .0)
+  module _ (r : ℕ) (h : p ≤ length text) (e : r ≡ behind (vertexFits text p low high) p vertexLength) (n : r ≡ p → ⊥) where
+    pub vertex-framed : Sealed text p 10
+    vertex-framed = sealed-is text p 10 (fits-sealed h (goes-passed p vertexLength (vertexFits text p low high) r e n))
 
-  pub vertex-number-room : (r : Bool) → p ≤ length text → r ≡ vertexFits text p low high → not r ≡ false → p + 2 + 8 ≤ length text
-  vertex-number-room r h e n = omega (arith, vertex-framed r h e n .room)
+    pub vertex-number-room : p + 2 + 8 ≤ length text
+    vertex-number-room = omega (arith, vertex-framed .room)

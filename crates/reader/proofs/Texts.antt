@@ -1,25 +1,28 @@
 -- A text read: what each way through the code has judged and made, and what the read then answers. Assumes nothing.
 use mathlib.Core.Path.{_≡_, sym, ap, _∙_}
-use mathlib.Core.Bool.{Bool, true, false, not, cond}
+use mathlib.Core.Bool.{true, false, cond}
 use mathlib.Core.List.{List}
 use Prim.Native.Nat.{ℕ, suc, _+_, _≤_, _<_}
 use native.Mathlib.Nat.{le-antisymm}
 use native.Mathlib.Omega.{arith}
 use lib.ListN.{length, getD, set, length-set}
 use lib.Seq.{getD-set-same, getD-set-other, ext-getD}
-use borrow.Author.Tests.{eq-eqb, ne-eqb, not-false}
+use borrow.Author.Tests.{eq-eqb, ne-eqb}
 use Rattle.lists.specs.Tests.{every}
 use Rattle.lists.proofs.Cases.{on, on-same}
 use Rattle.layout.specs.declared.Answer.{Answer}
 use Rattle.layout.specs.declared.Answer.the-variants.{Done, NotWellFormed, BadText}
 use Rattle.layout.specs.Layout.{limit, size, vertexCount, hyperedgeCount}
 use Rattle.layout.specs.Answers.{result}
+use Rattle.frames.specs.Frames.{headLength}
 use Rattle.frames.specs.Put.{Put}
-use Rattle.frames.specs.Reading.{verticesDue, hyperedgesDue, hyperedgePlace, headGood, hyperedgeGood, goodLines, accepted, faultyLine, readResult}
+use Rattle.frames.specs.Reading.{verticesDue, hyperedgesDue, vertexPlace, hyperedgePlace, headGood, hyperedgeGood, goodLines, accepted, faultyLine, readResult}
 use Rattle.frames.proofs.Laws.{put-length}
+use Rattle.reader.specs.Lines.{behind}
 use Rattle.reader.specs.Hyperedges.{VerticesStored, HyperedgesRead}
-use Rattle.lists.specs.Lists.{blank}
+use Rattle.lists.specs.Inner.{blank}
 use Rattle.reader.specs.Passes.{headWords, HeadStored, HeadMade, VerticesRead, VerticesMade, verdict, TextRead, storedRead, answerOf}
+use Rattle.reader.proofs.Ends.{stays-failed, goes-passed, goes-by}
 use Rattle.reader.proofs.HeadLine.{head-stored, vertices-few, hyperedges-few}
 use Rattle.reader.proofs.VertexLines.{stored-due, vertices-head, vertices-live, column-live}
 use Rattle.reader.proofs.Verdict.{verdict-head, verdict-vertex, verdict-hyperedge, verdict-on, verdict-none}
@@ -31,19 +34,26 @@ pub blank-sized : {ws : List ℕ} → ws ≡ blank (size limit) → length ws �
 blank-sized e = ap length e ∙ length-blank (size limit)
 
 module _ (text : List ℕ) where
-  pub text-headless : {ws : List ℕ} (r : Bool) → ws ≡ blank (size limit) → r ≡ headGood text → not r ≡ true → TextRead text ws 1
-  text-headless r b e n = record { sized = blank-sized b; judged = verdict-head text r e n; made = λ z. absurd (omega arith) }
+  module _ (r : ℕ) (g : r ≡ behind (headGood text) 0 headLength) where
+    pub text-headless : {ws : List ℕ} → ws ≡ blank (size limit) → r ≡ 0 → TextRead text ws 1
+    text-headless b z = record {
+      sized = blank-sized b;
+      judged = verdict-head text (stays-failed 0 headLength (headGood text) r g (omega arith) z);
+      made = λ z. absurd (omega arith);
+    }
 
-  module _ {a b : List ℕ} {q : ℕ} (e : a ≡ blank (size limit)) (f : Put 0 4 (headWords text) a b q) where
-    pub text-head-stored : (r : Bool) → r ≡ headGood text → not r ≡ false → HeadStored text b
-    text-head-stored r g n = head-stored text (sym g ∙ not-false r n) (blank-sized e) f
+    pub text-head-place : (r ≡ 0 → ⊥) → r ≡ headLength
+    text-head-place n = goes-by 0 headLength (headGood text) r g n
 
-    pub text-head-made : HeadMade text b
-    text-head-made = record { is = head-made text e f }
+    pub text-head-stored : {a b : List ℕ} {q : ℕ} → (r ≡ 0 → ⊥) → Put 0 4 (headWords text) a b q → a ≡ blank (size limit) → HeadStored text b
+    text-head-stored n f e = head-stored text (goes-passed 0 headLength (headGood text) r g n) (blank-sized e) f
+
+  pub text-head-made : {a b : List ℕ} {q : ℕ} → Put 0 4 (headWords text) a b q → a ≡ blank (size limit) → HeadMade text b
+  text-head-made f e = record { is = head-made text e f }
 
 -- ---- the vertices
 
-module _ (text a b : List ℕ) (n i : ℕ) (h : HeadStored text a) (en : n ≡ vertexCount a) (v : VerticesRead text a b i) where
+module _ (text a b : List ℕ) (n i at : ℕ) (h : HeadStored text a) (en : n ≡ vertexCount a) (v : VerticesRead text a b i at) where
   due : n ≡ verticesDue text
   due = stored-due h n en
 
@@ -60,12 +70,15 @@ module _ (text a b : List ℕ) (n i : ℕ) (h : HeadStored text a) (en : n ≡ v
     whole : i ≡ verticesDue text
     whole = le-antisymm (v .some) (rw (← due) l)
 
+    pub text-vertices-place : at ≡ vertexPlace (verticesDue text)
+    text-vertices-place = v .reached ∙ ap vertexPlace whole
+
     pub text-vertices-stored : VerticesStored text b
     text-vertices-stored = record {
-      head = vertices-head text a b i h v;
-      live = vertices-live text a b i h v (rw (← due) l);
-      same = column-live text a b i h v (rw (← due) l);
-      within = rw (← whole) (v .within);
+      head = vertices-head text a b i at h v;
+      live = vertices-live text a b i at h v (rw (← due) l);
+      same = column-live text a b i at h v (rw (← due) l);
+      within = rw (← text-vertices-place) (v .within);
     }
 
     pub text-vertices-made : HeadMade text a → VerticesMade text b
@@ -140,11 +153,11 @@ pub copied-end : (ws t : List ℕ) (i : ℕ) → Copied ws t i → length ws ≤
 copied-end ws t i c l = ext-getD 0 t ws (c .sized) (λ j h. c .same j (omega (arith, c .sized)))
 
 module _ (text lent : List ℕ) where
-  pub answer-unsized : (length lent ≡ 7236 → ⊥) → result NotWellFormed lent ≡ readResult text lent
+  pub answer-unsized : (length lent ≡ size limit → ⊥) → result NotWellFormed lent ≡ readResult text lent
   unfolding readResult
   answer-unsized n = rw (ne-eqb (length lent) (size limit) n)
 
-  module _ {ws : List ℕ} {line : ℕ} (sz : length lent ≡ 7236) (r : TextRead text ws line) where
+  module _ {ws : List ℕ} {line : ℕ} (sz : length lent ≡ size limit) (r : TextRead text ws line) where
     refused : 0 < line → (accepted text ≡ false) × (line ≡ faultyLine text)
     unfolding verdict
     refused h =

@@ -1,11 +1,11 @@
 -- The faulty line, from how many lines of each kind are good. Assumes nothing.
 use mathlib.Core.Path.{_≡_, refl, sym, ap, _∙_}
-use mathlib.Core.Bool.{Bool, true, false, not}
+use mathlib.Core.Bool.{Bool, true, false}
 use mathlib.Core.List.{List}
 use Prim.Native.Nat.{ℕ, zero, suc, _+_, _-_, _≤_, _<_}
 use native.Mathlib.Omega.{arith}
 use lib.ListN.{length}
-use borrow.Author.Tests.{lt-ltb, le-ltb, eq-eqb, ne-eqb, not-true}
+use borrow.Author.Tests.{lt-ltb, le-ltb, eq-eqb, ne-eqb}
 use Rattle.lists.specs.Tests.{_and_, every}
 use Rattle.lists.proofs.Cases.{on-same, on-below, and-left, and-right}
 use Rattle.lists.proofs.Every.{every-at, every-of}
@@ -62,9 +62,9 @@ module _ (text : List ℕ) where
   verdict-at k e f h =
       rw (first-at (lineGood text) (linesDue text) k e f h, ne-eqb k (linesDue text) (λ q. absurd (omega arith)))
 
-  pub verdict-head : (r : Bool) → r ≡ headGood text → not r ≡ true → 1 ≡ verdict text
+  pub verdict-head : headGood text ≡ false → 1 ≡ verdict text
   unfolding lineGood every
-  verdict-head r e n = verdict-at 0 refl (sym e ∙ not-true r n) (omega arith)
+  verdict-head f = verdict-at 0 refl f (omega arith)
 
   pub verdict-vertex : (i : ℕ) → headGood text ≡ true → every (vertexGood text) i ≡ true → vertexGood text i ≡ false → i < verticesDue text → 2 + i ≡ verdict text
   verdict-vertex i g v f h =

@@ -1,29 +1,30 @@
 -- The vertex lines: what a pass over them has judged and stored, and what then stands in the words. Assumes nothing.
 use mathlib.Core.Path.{_≡_, refl, sym, ap, ap₂, _∙_}
-use mathlib.Core.Bool.{Bool, true, false, not}
+use mathlib.Core.Bool.{Bool, true}
 use mathlib.Core.List.{List}
 use Prim.Native.Nat.{ℕ, zero, suc, _+_, _-_, _*_, _≤_, _<_}
 use native.Mathlib.Nat.{add-zero, le-antisymm}
 use native.Mathlib.Numerals.{add-one}
 use native.Mathlib.Omega.{arith}
 use lib.ListN.{length, getD}
-use borrow.Author.Tests.{ltb-true, leb-true, not-true}
+use borrow.Author.Tests.{ltb-true, leb-true}
 use Rattle.lists.specs.Tests.{_and_, every}
 use Rattle.lists.specs.Lists.{tab, flat}
-use Rattle.lists.proofs.Cases.{on-same, and-left, and-right}
-use Rattle.lists.proofs.Every.{every-at, every-on}
+use Rattle.lists.proofs.Cases.{on-same, and-left, and-right, and-both}
+use Rattle.lists.proofs.Every.{every-at}
 use Rattle.lists.proofs.Tab.{tab-ext, tab-suc, length-tab, getD-tab, map-tab}
 use Rattle.lists.proofs.Flat.{flat-snoc, flat-at}
 use Rattle.layout.specs.Content.{vertexNumber, liveVertices, vertexOf, noVertex}
 use Rattle.layout.specs.Layout.{limit, size, vertexLimit, vertexSize, verticesAt, vertexWord, nextVertexIn, vertexCount, vertexWords}
-use Rattle.layout.specs.WellFormed.{vertexColumn}
-use Rattle.frames.specs.Frames.{vertexLine}
+use Rattle.layout.specs.Inner.{vertexColumn}
+use Rattle.frames.specs.Frames.{headLength, vertexLength, vertexLine}
 use Rattle.frames.specs.Put.{Put}
 use Rattle.frames.specs.Reading.{nextVertexOf, verticesDue, vertexPlace, numberIn, weightIn, vertexIn, vertexNumberIn, contentOf, climbsTo, numberGood, standsAt, vertexGood}
 use Rattle.frames.proofs.Laws.{put-length, put-append, put-as}
 use Rattle.frames.proofs.Lines.{put-none}
-use Rattle.reader.specs.Lines.{lowest, vertexFits}
+use Rattle.reader.specs.Lines.{behind, lowest, vertexFits}
 use Rattle.reader.specs.Passes.{Live, HeadStored, VerticesRead}
+use Rattle.reader.proofs.Ends.{stays-failed, goes-passed, goes-by}
 use Rattle.reader.proofs.Numbers.{number-good, lowest-first, lowest-next}
 use Rattle.reader.proofs.HeadLine.{head-room, vertices-few, vertices-given}
 use Rattle.reader.proofs.Records.{vertex-framed}
@@ -40,17 +41,17 @@ pub record VerticesSo (text before after : List ℕ) (low at to i : ℕ) : Type 
   pub sized : length after ≡ length before
   pub put : Put verticesAt (i * vertexSize) (flat vertexWords (tab (vertexIn text) i)) before after to
 
-pub vertices-none : (text ws : List ℕ) → length ws ≡ size limit → 33 ≤ length text → VerticesSo text ws ws 0 33 4 0
+pub vertices-none : (text ws : List ℕ) (p : ℕ) → length ws ≡ size limit → p ≡ headLength → p ≤ length text → VerticesSo text ws ws 0 p verticesAt 0
 unfolding every tab flat
-vertices-none text ws l h = record {
+vertices-none text ws p l e h = record {
   some = omega arith;
   good = refl;
   least = lowest-first (vertexNumberIn text);
-  place = refl;
+  place = e;
   within = h;
   word = refl;
   sized = refl;
-  put = put-none 4 ws (omega arith);
+  put = put-none verticesAt ws (omega arith);
 }
 
 module _ (text : List ℕ) (n next : ℕ) (en : n ≡ verticesDue text) (ex : next ≡ nextVertexOf text) (given : n ≤ next) where
@@ -60,39 +61,45 @@ module _ (text : List ℕ) (n next : ℕ) (en : n ≡ verticesDue text) (ex : ne
       ap (λ (b : Bool). standsAt text (vertexPlace i) (vertexLine (vertexIn text i)) and b)
       (ap₂ (λ (k x : ℕ). numberGood (vertexNumberIn text) k x i) (sym en) (sym ex) ∙ sym (number-good (vertexNumberIn text) n next i given))
 
-  module _ {before after : List ℕ} {low at to i : ℕ} (v : VerticesSo text before after low at to i) (r : Bool) (e : r ≡ vertexFits text at low (next - (n - i))) where
-    found : r ≡ vertexGood text i
-    found = e ∙ ap₂ (λ (p l : ℕ). vertexFits text p l (next - (n - i))) (v .place) (v .least) ∙ sym (vertex-judged i)
+  module _ {before after : List ℕ} {low at to i : ℕ} (v : VerticesSo text before after low at to i)
+      (r : ℕ) (e : r ≡ behind (vertexFits text at low (next - (n - i))) at vertexLength) where
+    found : vertexFits text at low (next - (n - i)) ≡ vertexGood text i
+    found = ap₂ (λ (p l : ℕ). vertexFits text p l (next - (n - i))) (v .place) (v .least) ∙ sym (vertex-judged i)
 
-    pub vertices-stop : not r ≡ true → VerticesRead text before after i
+    pub vertices-stop : r ≡ at → VerticesRead text before after i at
     vertices-stop q = record {
       some = v .some;
       good = v .good;
-      within = rw (← v .place) (v .within);
+      reached = v .place;
+      within = v .within;
       put = rw (← v .word) (v .put);
-      stopped = λ h. sym found ∙ not-true r q;
+      stopped = λ h. sym found ∙ stays-failed at vertexLength _ r e (omega arith) q;
     }
 
-    pub vertices-more : {x to₂ : ℕ} {later : List ℕ} → not r ≡ false → i < n → x ≡ numberIn text at
-        → Put to 2 (vertexWords (vertexOf (numberIn text at) (weightIn text at))) after later to₂ → VerticesSo text before later (x + 1) (at + 21) to₂ (i + 1)
-    vertices-more q h exn f = record {
-      some = omega arith;
-      good = every-on (vertexGood text) n i r found (v .good) q;
-      least = lowest-next (vertexNumberIn text) i _ (exn ∙ ap (numberIn text) (v .place));
-      place = omega (arith, v .place);
-      within = omega (arith, vertex-framed text at low (next - (n - i)) r (v .within) e q .room);
-      word = omega (arith, f .reached, v .word);
-      sized = put-length f ∙ v .sized;
-      put = put-as (omega arith)
-          (sym (flat-snoc vertexWords (tab (vertexIn text) i) (vertexIn text i)) ∙ ap (flat vertexWords) (sym (tab-suc (vertexIn text) i) ∙ ap (tab (vertexIn text)) (sym (add-one i))))
-          (put-append (v .put) (rw (v .place) at f));
-    }
+    pub vertices-more : {x to₂ : ℕ} {later : List ℕ} → (r ≡ at → ⊥) → i < n → x ≡ numberIn text at
+        → Put to 2 (vertexWords (vertexOf (numberIn text at) (weightIn text at))) after later to₂ → VerticesSo text before later (x + 1) r to₂ (i + 1)
+    unfolding every
+    vertices-more q h exn f =
+        let w : r ≡ at + vertexLength = goes-by at vertexLength _ r e q in
+        record {
+          some = omega arith;
+          good = rw (add-one i) (and-both _ _ (v .good) (sym found ∙ goes-passed at vertexLength _ r e q));
+          least = lowest-next (vertexNumberIn text) i _ (exn ∙ ap (numberIn text) (v .place));
+          place = omega (arith, v .place);
+          within = omega (arith, vertex-framed text at low (next - (n - i)) r (v .within) e q .room);
+          word = omega (arith, f .reached, v .word);
+          sized = put-length f ∙ v .sized;
+          put = put-as (omega arith)
+              (sym (flat-snoc vertexWords (tab (vertexIn text) i) (vertexIn text i)) ∙ ap (flat vertexWords) (sym (tab-suc (vertexIn text) i) ∙ ap (tab (vertexIn text)) (sym (add-one i))))
+              (put-append (v .put) (rw (v .place) at f));
+        }
 
-  pub vertices-end : {before after : List ℕ} {low at to i : ℕ} → VerticesSo text before after low at to i → n ≤ i → VerticesRead text before after i
+  pub vertices-end : {before after : List ℕ} {low at to i : ℕ} → VerticesSo text before after low at to i → n ≤ i → VerticesRead text before after i at
   vertices-end v h = record {
     some = v .some;
     good = v .good;
-    within = rw (← v .place) (v .within);
+    reached = v .place;
+    within = v .within;
     put = rw (← v .word) (v .put);
     stopped = λ l. absurd (omega arith);
   }
@@ -111,8 +118,8 @@ module _ {text ws : List ℕ} (h : HeadStored text ws) (n : ℕ) (e : n ≡ vert
 pub stored-next : {text ws : List ℕ} → HeadStored text ws → (u w : ℕ) → u ≡ nextVertexIn ws → w ≡ u → w ≡ nextVertexOf text
 stored-next h u w f g = g ∙ f ∙ h .next-vertex
 
-pub stored-room : {text ws : List ℕ} → HeadStored text ws → 33 ≤ length text
-stored-room {text} h = head-room text (h .good)
+pub stored-within : {text ws : List ℕ} → HeadStored text ws → (p : ℕ) → p ≡ headLength → p ≤ length text
+stored-within {text} h p e = rw e (head-room text (h .good))
 
 -- ---- all vertices read: what stands in the words
 
@@ -129,7 +136,7 @@ numbers-below text i g l =
     let room : vertexNumberIn text i + (verticesDue text - i) ≤ nextVertexOf text = leb-true _ _ (and-right _ _ (and-right _ _ g)) in
     omega arith
 
-module _ (text before after : List ℕ) (r : ℕ) (h : HeadStored text before) (v : VerticesRead text before after r) where
+module _ (text before after : List ℕ) (r at : ℕ) (h : HeadStored text before) (v : VerticesRead text before after r at) where
   pub vertices-head : HeadStored text after
   vertices-head = record {
     sized = put-length (v .put) ∙ h .sized;

@@ -22,10 +22,13 @@ pub record Valued (values : List ℕ) : Type 0 where
 unfoldable pub frameSum : List ℕ → ℕ → ℕ → ℕ
 frameSum text p k = cond (all (isBelow byteValues) (bytesAt text p k)) (byteSum (bytesAt text p k)) 1
 
+-- the place behind the line at p, of so many bytes, where it passes a test; else p
+unfoldable pub behind : Bool → ℕ → ℕ → ℕ
+behind passes p width = cond passes (p + width) p
+
 -- the place behind a line of so many bytes, or the same place where there is none that ends so
 unfoldable pub lineEnd : List ℕ → ℕ → ℕ → ℕ
-lineEnd text p width =
-    cond (leb (p + width) (length text) and eqb (getD text (p + (width - 1)) 0) 10) (p + width) p
+lineEnd text p width = behind (leb (p + width) (length text) and eqb (getD text (p + (width - 1)) 0) 10) p width
 
 -- the line at p is of k bytes, in digits of capital hexadecimal, with a byte sum of 0 modulo 256
 unfoldable pub sealedAt : List ℕ → ℕ → ℕ → Bool

@@ -6,11 +6,12 @@ use mathlib.Core.List.{List, [], _∷_, _++_}
 use lib.Dec.{eqb}
 use lib.ListN.{length, getD}
 use Rattle.lists.specs.Tests.{every}
-use Rattle.lists.specs.Lists.{tab, flat, blank, pad, Ascending}
+use Rattle.lists.specs.Lists.{tab, flat, pad, Ascending}
+use Rattle.lists.specs.Inner.{blank}
 use Rattle.layout.specs.declared.Answer.{Answer}
 use Rattle.layout.specs.declared.Answer.the-variants.{Done, BadText}
 use Rattle.layout.specs.Layout.{limit, size, vertexLimit, hyperedgeLimit, vertexSize, recordSize, verticesAt, vertexWord, nextVertexIn, nextHyperedgeIn, vertexCount, hyperedgeCount, vertexWords, words}
-use Rattle.layout.specs.WellFormed.{vertexColumn}
+use Rattle.layout.specs.Inner.{vertexColumn}
 use Rattle.frames.specs.Put.{Put}
 use Rattle.frames.specs.Reading.{nextVertexOf, nextHyperedgeOf, verticesDue, hyperedgesDue, vertexPlace, vertexIn, contentOf, headGood, vertexGood, accepted, faultyLine}
 
@@ -34,11 +35,13 @@ pub record HeadStored (text ws : List ℕ) : Type 0 where
 abbrev pub headWords : List ℕ → List ℕ
 headWords text = nextVertexOf text ∷ nextHyperedgeOf text ∷ verticesDue text ∷ hyperedgesDue text ∷ []
 
--- r vertices are good, one after the other from the first on, and they are stored; the next one that is due is not good
-pub record VerticesRead (text before after : List ℕ) (r : ℕ) : Type 0 where
+-- r vertices are good, one after the other from the first on, and they are stored; at is the place behind them, and the next one
+-- that is due is not good
+pub record VerticesRead (text before after : List ℕ) (r at : ℕ) : Type 0 where
   pub some : r ≤ verticesDue text
   pub good : every (vertexGood text) r ≡ true
-  pub within : vertexPlace r ≤ length text
+  pub reached : at ≡ vertexPlace r
+  pub within : at ≤ length text
   pub put : Put verticesAt (r * vertexSize) (flat vertexWords (tab (vertexIn text) r)) before after (verticesAt + r * vertexSize)
   pub stopped : r < verticesDue text → vertexGood text r ≡ false
 

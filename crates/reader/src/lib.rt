@@ -4,9 +4,7 @@ ghost use Prim.Native.Nat.{_+_, _*_, _≤_};
 ghost use lib.ListN.{length};
 ghost use Rattle.frames.specs.Reading.{noValue, value, byteAt, shortAt, numberAt};
 ghost use Rattle.reader.specs.Lines.{Valued, lineEnd};
-
-// How many values a byte has.
-pub const BYTE_VALUES: usize = 256;
+use frames::BYTE_VALUES;
 
 // The bytes of a frame, with its last: of a vertex, of a hyperedge with no member, and of a member.
 pub const VERTEX_BYTES: usize = 10;
@@ -14,11 +12,6 @@ pub const VERTEX_BYTES: usize = 10;
 pub const HYPEREDGE_BYTES: usize = 11;
 
 pub const MEMBER_BYTES: usize = 4;
-
-// The digits of a member, and of a hyperedge line with no member and with its line feed.
-pub const MEMBER_LENGTH: usize = 8;
-
-pub const HYPEREDGE_LENGTH: usize = 23;
 
 // Where a record's number, weight, count and members stand in its line.
 pub const NUMBER_AT: usize = 2;
@@ -89,6 +82,12 @@ pub struct Reader<'a> {
     pub at: usize,
 }
 
+// How many lines of a kind are good, one after the other, and the place behind them.
+pub struct Walked {
+    pub lines: usize,
+    pub at: usize,
+}
+
 // The place behind a line of so many bytes, or the same place where no line ends so.
 fn line_end(text: &[u8], at: usize, width: usize) -> usize
     ensures { λ r. ⌜ r ≡ lineEnd (now (text .entry)) at width ⌝ }
@@ -130,7 +129,7 @@ fn place<'a>(r: Reader<'a>) -> usize
     r.at
 }
 
-// Walks a line: a reader is made at the place and goes on to the next line.
+// Walks a line of so many bytes: a reader is made at the place and goes on to the next line. It stays where no line ends so.
 pub fn walk_line(text: &[u8], at: usize, width: usize) -> usize
     ensures { λ r. ⌜ r ≡ lineEnd (now (text .entry)) at width ⌝ }
 {

@@ -3,12 +3,18 @@
 use hypergraph::is_empty;
 use replay::tally;
 
+// The place of the function in the tally, behind those of the edits.
+const IS_EMPTY: usize = 7;
+
+// The kind of a record, by its first byte: what is asked of the whole table.
+const OF_TABLE: u32 = 8;
+
 // The record at `at`, and the place after it.
 fn record(s: &[u8], at: usize, t: &mut [u32], tally: &mut [u32]) -> usize {
     let first = replay_reading::byte(s, at);
     let kind = first.value;
     match kind {
-        8 => replay_judge::answer(s, first.at, is_empty(t), 7, tally),
+        OF_TABLE => replay_judge::answer(s, first.at, is_empty(t), IS_EMPTY, tally),
         _ => replay_tables::record(s, kind, first.at, t, tally),
     }
 }
@@ -26,11 +32,11 @@ fn records(s: &[u8], t: &mut [u32], tally: &mut [u32]) -> usize {
 }
 
 fn run(s: &[u8]) {
-    let mut t = [0u32; 7236];
+    let mut t = [0u32; layout::SIZE];
     let mut tally = [0u32; 64];
     let end = records(s, &mut t, &mut tally);
     replay_tables::lines(&tally);
-    tally::line(b"is_empty", 7, &tally);
+    tally::line(b"is_empty", IS_EMPTY, &tally);
     tally::all(&tally);
     replay_tables::say_end(end);
 }

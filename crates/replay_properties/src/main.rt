@@ -1,22 +1,42 @@
 // Replays recorded answers of the Rust: the properties. A line for each function: how many answers were compared, and how many differ.
 use replay::tally;
 
+// The place of each function in the tally, behind those of the edits.
+const GET_ORPHAN_VERTICES: usize = 7;
+
+const GET_ORPHAN_HYPEREDGES: usize = 8;
+
+const GET_ENDPOINTS: usize = 9;
+
+const GET_INCLUSIONS: usize = 10;
+
+const FIND_CUT_VERTICES: usize = 11;
+
+const GET_NESTEDNESS_PROFILE: usize = 12;
+
+const IS_K_UNIFORM: usize = 13;
+
+// The kinds of the records, by their first byte: what is asked of the whole table, and of a count of members.
+const OF_TABLE: u32 = 48;
+
+const OF_COUNT: u32 = 49;
+
 fn of_vertices(s: &[u8], at: usize, t: &[u32], out: &mut [u32], tally: &mut [u32]) -> usize {
     let a = orphans::get_orphan_vertices(t, out);
-    let b = replay_judge::listing(s, at, a, out, 7, tally);
+    let b = replay_judge::listing(s, at, a, out, GET_ORPHAN_VERTICES, tally);
     let c = properties::get_orphan_hyperedges(t, out);
-    let d = replay_judge::listing(s, b, c, out, 8, tally);
+    let d = replay_judge::listing(s, b, c, out, GET_ORPHAN_HYPEREDGES, tally);
     let e = orphans::get_endpoints(t, out);
-    replay_judge::listing(s, d, e, out, 9, tally)
+    replay_judge::listing(s, d, e, out, GET_ENDPOINTS, tally)
 }
 
 fn of_sets(s: &[u8], at: usize, t: &[u32], out: &mut [u32], tally: &mut [u32]) -> usize {
     let a = inclusions::get_inclusions(t, out);
-    let b = replay_judge::listing(s, at, a, out, 10, tally);
+    let b = replay_judge::listing(s, at, a, out, GET_INCLUSIONS, tally);
     let c = properties::find_cut_vertices(t, out);
-    let d = replay_judge::listing(s, b, c, out, 11, tally);
+    let d = replay_judge::listing(s, b, c, out, FIND_CUT_VERTICES, tally);
     let e = nestedness::get_nestedness_profile(t, out);
-    replay_judge::listing(s, d, e, out, 12, tally)
+    replay_judge::listing(s, d, e, out, GET_NESTEDNESS_PROFILE, tally)
 }
 
 fn whole(s: &[u8], at: usize, t: &[u32], out: &mut [u32], tally: &mut [u32]) -> usize {
@@ -27,7 +47,7 @@ fn whole(s: &[u8], at: usize, t: &[u32], out: &mut [u32], tally: &mut [u32]) -> 
 fn uniform(s: &[u8], at: usize, t: &[u32], tally: &mut [u32]) -> usize {
     let k = replay_reading::word(s, at);
     let a = properties::is_k_uniform(t, k.value as usize);
-    replay_judge::answer(s, k.at, a, 13, tally)
+    replay_judge::answer(s, k.at, a, IS_K_UNIFORM, tally)
 }
 
 // The record at `at`, and the place after it.
@@ -35,8 +55,8 @@ fn record(s: &[u8], at: usize, t: &mut [u32], out: &mut [u32], tally: &mut [u32]
     let first = replay_reading::byte(s, at);
     let kind = first.value;
     match kind {
-        48 => whole(s, first.at, t, out, tally),
-        49 => uniform(s, first.at, t, tally),
+        OF_TABLE => whole(s, first.at, t, out, tally),
+        OF_COUNT => uniform(s, first.at, t, tally),
         _ => replay_tables::record(s, kind, first.at, t, tally),
     }
 }
@@ -55,18 +75,18 @@ fn records(s: &[u8], t: &mut [u32], out: &mut [u32], tally: &mut [u32]) -> usize
 
 fn lines(tally: &[u32]) {
     replay_tables::lines(tally);
-    tally::line(b"get_orphan_vertices", 7, tally);
-    tally::line(b"get_orphan_hyperedges", 8, tally);
-    tally::line(b"get_endpoints", 9, tally);
-    tally::line(b"get_inclusions", 10, tally);
-    tally::line(b"find_cut_vertices", 11, tally);
-    tally::line(b"get_nestedness_profile", 12, tally);
-    tally::line(b"is_k_uniform", 13, tally);
+    tally::line(b"get_orphan_vertices", GET_ORPHAN_VERTICES, tally);
+    tally::line(b"get_orphan_hyperedges", GET_ORPHAN_HYPEREDGES, tally);
+    tally::line(b"get_endpoints", GET_ENDPOINTS, tally);
+    tally::line(b"get_inclusions", GET_INCLUSIONS, tally);
+    tally::line(b"find_cut_vertices", FIND_CUT_VERTICES, tally);
+    tally::line(b"get_nestedness_profile", GET_NESTEDNESS_PROFILE, tally);
+    tally::line(b"is_k_uniform", IS_K_UNIFORM, tally);
     tally::all(tally);
 }
 
 fn run(s: &[u8]) {
-    let mut t = [0u32; 7236];
+    let mut t = [0u32; layout::SIZE];
     let mut out = [0u32; 73728];
     let mut tally = [0u32; 64];
     let end = records(s, &mut t, &mut out, &mut tally);

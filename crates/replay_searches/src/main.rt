@@ -3,20 +3,60 @@
 use layout::VertexIndex;
 use replay::tally;
 
+// The place of each function in the tally, behind those of the edits.
+const IS_CONNECTED: usize = 7;
+
+const IS_ACYCLIC: usize = 8;
+
+const TOPOLOGICAL_SORT: usize = 9;
+
+const STRONGLY_CONNECTED_COMPONENTS: usize = 10;
+
+const CONNECTED_COMPONENTS: usize = 11;
+
+const GET_TRANSITIVE_CLOSURE: usize = 12;
+
+const GET_BFS: usize = 13;
+
+const GET_DFS: usize = 14;
+
+const GET_DIJKSTRA_FROM: usize = 15;
+
+const IS_REACHABLE: usize = 16;
+
+const GET_DIJKSTRA_CONNECTIONS_WITH_COST: usize = 17;
+
+const RANDOM_WALK: usize = 18;
+
+// The kinds of the records, by their first byte: what is asked of the whole table, of a vertex, of two vertices, of a walk.
+const OF_TABLE: u32 = 32;
+
+const OF_VERTEX: u32 = 33;
+
+const OF_PAIR: u32 = 34;
+
+const OF_WALK: u32 = 35;
+
 fn of_steps(s: &[u8], at: usize, t: &[u32], out: &mut [u32], tally: &mut [u32]) -> usize {
-    let b = replay_judge::answer(s, at, component_listings::is_connected(t), 7, tally);
-    let c = replay_judge::answer(s, b, topological_sort::is_acyclic(t), 8, tally);
+    let b = replay_judge::answer(
+        s,
+        at,
+        component_listings::is_connected(t),
+        IS_CONNECTED,
+        tally,
+    );
+    let c = replay_judge::answer(s, b, topological_sort::is_acyclic(t), IS_ACYCLIC, tally);
     let d = topological_sort::topological_sort(t, out);
-    replay_judge::listing(s, c, d, out, 9, tally)
+    replay_judge::listing(s, c, d, out, TOPOLOGICAL_SORT, tally)
 }
 
 fn of_components(s: &[u8], at: usize, t: &[u32], out: &mut [u32], tally: &mut [u32]) -> usize {
     let a = component_listings::strongly_connected_components(t, out);
-    let b = replay_judge::listing(s, at, a, out, 10, tally);
+    let b = replay_judge::listing(s, at, a, out, STRONGLY_CONNECTED_COMPONENTS, tally);
     let c = component_listings::connected_components(t, out);
-    let d = replay_judge::listing(s, b, c, out, 11, tally);
+    let d = replay_judge::listing(s, b, c, out, CONNECTED_COMPONENTS, tally);
     let e = component_listings::get_transitive_closure(t, out);
-    replay_judge::listing(s, d, e, out, 12, tally)
+    replay_judge::listing(s, d, e, out, GET_TRANSITIVE_CLOSURE, tally)
 }
 
 fn whole(s: &[u8], at: usize, t: &[u32], out: &mut [u32], tally: &mut [u32]) -> usize {
@@ -27,11 +67,11 @@ fn whole(s: &[u8], at: usize, t: &[u32], out: &mut [u32], tally: &mut [u32]) -> 
 fn of_vertex(s: &[u8], at: usize, t: &[u32], out: &mut [u32], tally: &mut [u32]) -> usize {
     let v = replay_reading::word(s, at);
     let a = traversal::get_bfs(t, VertexIndex(v.value), out);
-    let b = replay_judge::listing(s, v.at, a, out, 13, tally);
+    let b = replay_judge::listing(s, v.at, a, out, GET_BFS, tally);
     let c = traversal::get_dfs(t, VertexIndex(v.value), out);
-    let d = replay_judge::listing(s, b, c, out, 14, tally);
+    let d = replay_judge::listing(s, b, c, out, GET_DFS, tally);
     let e = dijkstra_from::get_dijkstra_from(t, VertexIndex(v.value), out);
-    replay_judge::listing(s, d, e, out, 15, tally)
+    replay_judge::listing(s, d, e, out, GET_DIJKSTRA_FROM, tally)
 }
 
 fn of_pair(s: &[u8], at: usize, t: &[u32], out: &mut [u32], tally: &mut [u32]) -> usize {
@@ -39,9 +79,24 @@ fn of_pair(s: &[u8], at: usize, t: &[u32], out: &mut [u32], tally: &mut [u32]) -
     let y = replay_reading::word(s, x.at);
     let from = VertexIndex(x.value);
     let to = VertexIndex(y.value);
-    let b = replay_judge::answer(s, y.at, traversal::is_reachable(t, from, to), 16, tally);
+    let b = replay_judge::answer(
+        s,
+        y.at,
+        traversal::is_reachable(t, from, to),
+        IS_REACHABLE,
+        tally,
+    );
     let c = dijkstra_connections::get_dijkstra_connections_with_cost(t, from, to, out);
-    replay_rows::answer(s, b, c, x.value, y.value, out, 17, tally)
+    replay_rows::answer(
+        s,
+        b,
+        c,
+        x.value,
+        y.value,
+        out,
+        GET_DIJKSTRA_CONNECTIONS_WITH_COST,
+        tally,
+    )
 }
 
 fn walked(s: &[u8], at: usize, t: &[u32], out: &mut [u32], tally: &mut [u32]) -> usize {
@@ -55,7 +110,7 @@ fn walked(s: &[u8], at: usize, t: &[u32], out: &mut [u32], tally: &mut [u32]) ->
         seed.value,
         out,
     );
-    replay_judge::listing(s, seed.at, a, out, 18, tally)
+    replay_judge::listing(s, seed.at, a, out, RANDOM_WALK, tally)
 }
 
 // The record at `at`, and the place after it.
@@ -63,10 +118,10 @@ fn record(s: &[u8], at: usize, t: &mut [u32], out: &mut [u32], tally: &mut [u32]
     let first = replay_reading::byte(s, at);
     let kind = first.value;
     match kind {
-        32 => whole(s, first.at, t, out, tally),
-        33 => of_vertex(s, first.at, t, out, tally),
-        34 => of_pair(s, first.at, t, out, tally),
-        35 => walked(s, first.at, t, out, tally),
+        OF_TABLE => whole(s, first.at, t, out, tally),
+        OF_VERTEX => of_vertex(s, first.at, t, out, tally),
+        OF_PAIR => of_pair(s, first.at, t, out, tally),
+        OF_WALK => walked(s, first.at, t, out, tally),
         _ => replay_tables::record(s, kind, first.at, t, tally),
     }
 }
@@ -85,23 +140,31 @@ fn records(s: &[u8], t: &mut [u32], out: &mut [u32], tally: &mut [u32]) -> usize
 
 fn lines(tally: &[u32]) {
     replay_tables::lines(tally);
-    tally::line(b"is_connected", 7, tally);
-    tally::line(b"is_acyclic", 8, tally);
-    tally::line(b"topological_sort", 9, tally);
-    tally::line(b"strongly_connected_components", 10, tally);
-    tally::line(b"connected_components", 11, tally);
-    tally::line(b"get_transitive_closure", 12, tally);
-    tally::line(b"get_bfs", 13, tally);
-    tally::line(b"get_dfs", 14, tally);
-    tally::line(b"get_dijkstra_from", 15, tally);
-    tally::line(b"is_reachable", 16, tally);
-    tally::line(b"get_dijkstra_connections_with_cost", 17, tally);
-    tally::line(b"random_walk", 18, tally);
+    tally::line(b"is_connected", IS_CONNECTED, tally);
+    tally::line(b"is_acyclic", IS_ACYCLIC, tally);
+    tally::line(b"topological_sort", TOPOLOGICAL_SORT, tally);
+    tally::line(
+        b"strongly_connected_components",
+        STRONGLY_CONNECTED_COMPONENTS,
+        tally,
+    );
+    tally::line(b"connected_components", CONNECTED_COMPONENTS, tally);
+    tally::line(b"get_transitive_closure", GET_TRANSITIVE_CLOSURE, tally);
+    tally::line(b"get_bfs", GET_BFS, tally);
+    tally::line(b"get_dfs", GET_DFS, tally);
+    tally::line(b"get_dijkstra_from", GET_DIJKSTRA_FROM, tally);
+    tally::line(b"is_reachable", IS_REACHABLE, tally);
+    tally::line(
+        b"get_dijkstra_connections_with_cost",
+        GET_DIJKSTRA_CONNECTIONS_WITH_COST,
+        tally,
+    );
+    tally::line(b"random_walk", RANDOM_WALK, tally);
     tally::all(tally);
 }
 
 fn run(s: &[u8]) {
-    let mut t = [0u32; 7236];
+    let mut t = [0u32; layout::SIZE];
     let mut out = [0u32; 131072];
     let mut tally = [0u32; 64];
     let end = records(s, &mut t, &mut out, &mut tally);

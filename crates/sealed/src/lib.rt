@@ -2,9 +2,10 @@
 ghost use mathlib.Core.Path.{_≡_};
 ghost use Prim.Native.Nat.{_+_, _*_, _≤_};
 ghost use lib.ListN.{length};
+ghost use Rattle.frames.specs.Frames.{vertexLength};
 ghost use Rattle.frames.specs.Reading.{standsAt};
-ghost use Rattle.reader.specs.Lines.{Valued, frameSum, sealedAt, Sealed, countsFit, numberFits, vertexFits};
-use reader::BYTE_VALUES;
+ghost use Rattle.reader.specs.Lines.{Valued, behind, frameSum, sealedAt, Sealed, countsFit, numberFits, vertexFits};
+use frames::BYTE_VALUES;
 use reader::NUMBER_AT;
 use reader::VERTEX_BYTES;
 use reader::byte_at;
@@ -45,16 +46,21 @@ pub fn stands_at(text: &[u8], at: usize, bytes: &[u8]) -> bool
     true
 }
 
-// The line at the place is a frame of k bytes, its last byte and its line feed included in the test.
-pub fn is_frame(values: &[u16; 256], text: &[u8], at: usize, k: usize) -> bool
+// The place behind the line at the place, where that is a frame of k bytes, its last byte and its line feed included in the test; else
+// the same place.
+pub fn frame_end(values: &[u16; 256], text: &[u8], at: usize, k: usize) -> usize
     requires { ⌜ Valued (now values) ⌝ }
     requires { ⌜ (at ≤ length (now text)) × (k ≤ 256) ⌝ }
-    ensures { λ r. ⌜ r ≡ sealedAt (now (text .entry)) at k ⌝ }
+    ensures { λ r. ⌜ r ≡ behind (sealedAt (now (text .entry)) at k) at (k * 2 + 1) ⌝ }
 {
-    if walk_line(text, at, k * 2 + 1) == at {
-        return false;
+    let end = walk_line(text, at, k * 2 + 1);
+    if end == at {
+        return at;
     }
-    frame_sum(values, text, at, k) % BYTE_VALUES == 0
+    if frame_sum(values, text, at, k) % BYTE_VALUES != 0 {
+        return at;
+    }
+    end
 }
 
 // The counts of a head fit; vertex and hyperedge are the next numbers.
@@ -89,15 +95,20 @@ pub fn number_fits(x: usize, low: usize, high: usize) -> bool
     x <= high
 }
 
-pub fn vertex_fits(values: &[u16; 256], text: &[u8], at: usize, low: usize, high: usize) -> bool
+// The place behind the vertex line at the place, where it fits; else the same place.
+pub fn vertex_end(values: &[u16; 256], text: &[u8], at: usize, low: usize, high: usize) -> usize
     requires { ⌜ Valued (now values) ⌝ }
     requires { ⌜ at ≤ length (now text) ⌝ }
-    ensures { λ r. ⌜ r ≡ vertexFits (now (text .entry)) at low high ⌝ }
+    ensures { λ r. ⌜ r ≡ behind (vertexFits (now (text .entry)) at low high) at vertexLength ⌝ }
 {
-    if !is_frame(values, text, at, VERTEX_BYTES) {
-        return false;
+    let end = frame_end(values, text, at, VERTEX_BYTES);
+    if end == at {
+        return at;
     }
-    sealed_vertex_fits(values, text, at, low, high)
+    if !sealed_vertex_fits(values, text, at, low, high) {
+        return at;
+    }
+    end
 }
 
 fn sealed_vertex_fits(values: &[u16; 256], text: &[u8], at: usize, low: usize, high: usize) -> bool

@@ -13,7 +13,7 @@ use Rattle.order.specs.Least.{least}
 use Rattle.order.specs.Greedy.{available, next, rest, greedy}
 use Rattle.depth.specs.Dfs.{tried}
 use Rattle.depth.specs.Pre.{climbs, walks, preorder}
-use Rattle.distance.specs.Best.{lexLe, ahead, better, onward, bestOver, stay, bestWithin, best}
+use Rattle.distance.specs.Computed.{lexLe, ahead, better, onward, bestOver, stay, bestWithin, best}
 use Rattle.components.specs.Classes.{rooted, rootsFrom, classes}
 use Rattle.steps.specs.Matrices.{undirected, listsBoth, together}
 use Rattle.edits.specs.Edits.{without, hasMembers, removeVertex}

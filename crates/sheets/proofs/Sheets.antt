@@ -17,7 +17,7 @@ use Rattle.order.specs.Least.{least}
 use Rattle.order.specs.Greedy.{available, next, rest, greedy}
 use Rattle.depth.specs.Dfs.{tried, tries, visits}
 use Rattle.depth.specs.Finish.{startAt, sweep, finished}
-use Rattle.distance.specs.Best.{lexLe, ahead, better, onward, bestOver, stay, bestWithin, best}
+use Rattle.distance.specs.Computed.{lexLe, ahead, better, onward, bestOver, stay, bestWithin, best}
 use Rattle.components.specs.Classes.{rooted, rootsFrom, classes}
 use Rattle.strong.specs.Strong.{mutuallyReached, latestFirst}
 use Rattle.steps.specs.Matrices.{listsBoth, together}
@@ -58,7 +58,7 @@ hold (c ∷ cs) e h =
     let behind : map asked cs ≡ map answered cs = cc in
     (λ lent. called (c .table) (and-left _ _ h) lent (c .query) ∙ here, hold cs behind (and-right _ _ h))
 
--- ---- the paper's sheets
+-- ---- the rules' sheets
 
 computed : map asked sheets ≡ map answered sheets
 unfolding sortResult acyclic sortOf greedy rest next available least hasStep makesStep isStep stepsOf any _and_ listed over pairResult onLive pathWords bestPath best bestWithin stay bestOver onward better ahead lexLe entriesAfter stepHyperedge stepCost choice choiceAmong lighter closureResult closureOf filter reachesOther reachable traversal listFrom position positionFrom bfs run spread push flat strongComponentsResult strongComponents classes rootsFrom rooted mutuallyReached latestFirst finished sweep startAt visits tries tried chosen removeVertexResult removeVertex without hasMembers otherThan listingResult listing block placesIn places inclusions pairsOf pair isWithin strictlyWithin P.within under memberSet every nestedness row included totalOf includedOfSize isIncluded hasSize isSize setSize cutVerticesResult cutVertices isCut partsSome parts isLinked recordOf together listsBoth updateResult onSome

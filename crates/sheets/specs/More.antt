@@ -1,5 +1,4 @@
--- Cases beside the paper's sheets. Assumes nothing.
-use mathlib.Core.Bool.{true, false}
+-- Cases beside the rules' sheets. Assumes nothing.
 use mathlib.Core.List.{List, [], _∷_}
 use Prim.Native.Nat.{ℕ}
 use Rattle.layout.specs.declared.Answer.the-variants.{Done, NoRoom}
@@ -7,7 +6,8 @@ use Rattle.layout.specs.Content.{Table, hyperedgeOf}
 use Rattle.layout.specs.Layout.{limit, words}
 use Rattle.layout.specs.Answers.{Result, result}
 use Rattle.edits.specs.Results.{removeVertexResult}
-use Rattle.lookups.specs.declared.Relation.the-variants.{From, To, Around}
+use Rattle.lookups.specs.declared.Direction.the-variants.{From, To}
+use Rattle.lookups.specs.declared.Relation.the-variants.{Along, Around}
 use Rattle.lookups.specs.Results.{relatedResult, intersectionsResult, degreeResult, connectingResult, fullHyperedgesResult, fullAdjacentResult, weighingResult, vertexIndexResult}
 use Rattle.traversal.specs.declared.Order.the-variants.{BreadthFirst, DepthFirst}
 use Rattle.traversal.specs.Traversal.{traversalResult, reachableResult}
@@ -64,10 +64,10 @@ removed-0 = record { table = Repeated; query = removeVertexResult 0 (words limit
 
 -- adjacent vertices and neighbourhoods
 abbrev pub after-0 : Case
-after-0 = record { table = G; query = relatedResult From 0 (lent 2); answer = gives (1 ∷ 3 ∷ []) }
+after-0 = record { table = G; query = relatedResult (Along From) 0 (lent 2); answer = gives (1 ∷ 3 ∷ []) }
 
 abbrev pub before-2 : Case
-before-2 = record { table = G; query = relatedResult To 2 (lent 2); answer = gives (1 ∷ 3 ∷ []) }
+before-2 = record { table = G; query = relatedResult (Along To) 2 (lent 2); answer = gives (1 ∷ 3 ∷ []) }
 
 abbrev pub around-2 : Case
 around-2 = record { table = G; query = relatedResult Around 2 (lent 3); answer = gives (0 ∷ 1 ∷ 3 ∷ []) }
@@ -77,25 +77,26 @@ around-4 = record { table = G; query = relatedResult Around 4 (lent 0); answer =
 
 -- each adjacent vertex, its count, its hyperedges
 abbrev pub full-after-0 : Case
-full-after-0 = record { table = G; query = fullAdjacentResult false 0 (lent 6); answer = gives (1 ∷ 1 ∷ 0 ∷ 3 ∷ 1 ∷ 1 ∷ []) }
+full-after-0 = record { table = G; query = fullAdjacentResult From 0 (lent 6); answer = gives (1 ∷ 1 ∷ 0 ∷ 3 ∷ 1 ∷ 1 ∷ []) }
 
 abbrev pub full-before-1 : Case
-full-before-1 = record { table = K; query = fullAdjacentResult true 1 (lent 5); answer = gives (0 ∷ 3 ∷ 0 ∷ 1 ∷ 2 ∷ []) }
+full-before-1 = record { table = K; query = fullAdjacentResult To 1 (lent 5); answer = gives (0 ∷ 3 ∷ 0 ∷ 1 ∷ 2 ∷ []) }
 
 abbrev pub full-repeated : Case
-full-repeated = record { table = Repeated; query = fullAdjacentResult false 0 (lent 4); answer = gives (1 ∷ 2 ∷ 0 ∷ 0 ∷ []) }
+full-repeated = record { table = Repeated; query = fullAdjacentResult From 0 (lent 4); answer = gives (1 ∷ 2 ∷ 0 ∷ 0 ∷ []) }
 
 -- degrees count every place: in K each list steps from 0 once, and to 1 once
 abbrev pub out-of-0 : Case
-out-of-0 = record { table = K; query = degreeResult false 0; answer = answers 3 }
+out-of-0 = record { table = K; query = degreeResult From 0; answer = answers 3 }
 
 abbrev pub into-1 : Case
-into-1 = record { table = K; query = degreeResult true 1; answer = answers 3 }
+into-1 = record { table = K; query = degreeResult To 1; answer = answers 3 }
 
--- a second vertex that is not live gives an empty answer
+-- each of the three lists has the step once
 abbrev pub connecting-K : Case
 connecting-K = record { table = K; query = connectingResult 0 1 (lent 3); answer = gives (0 ∷ 1 ∷ 2 ∷ []) }
 
+-- a second vertex that is not live gives an empty answer
 abbrev pub connecting-none : Case
 connecting-none = record { table = G; query = connectingResult 0 9 (lent 0); answer = gives [] }
 

@@ -1,4 +1,4 @@
--- The sheets to check by: a table of cases, each a table, a query and the paper's answer. Assumes nothing.
+-- The sheets to check by: a table of cases, each a table, a query and the rules' answer. Assumes nothing.
 use mathlib.Core.Path.{_≡_}
 use mathlib.Core.List.{List, [], _∷_}
 use Prim.Native.Nat.{ℕ}
@@ -61,13 +61,13 @@ Left = table (vertex 1 ∷ vertex 2 ∷ vertex 4 ∷ []) (hyperedgeOf 0 4 (1 ∷
 
 -- ---- cases
 
--- a table, a query and the paper's answer
+-- a table, a query and the rules' answer
 pub record Case : Type 0 where
   pub table : Table
   pub query : Table → Result
   pub answer : Result
 
--- for each case: called on the words of its table, the query gives the paper's answer
+-- for each case: called on the words of its table, the query gives the rules' answer
 abbrev pub Hold : List Case → Type 0
 Hold [] = Unit {0}
 Hold (c ∷ cs) = ((lent : List ℕ) → onFormed (words limit (c .table)) lent (c .query) ≡ c .answer) × Hold cs

@@ -26,7 +26,7 @@ fn sort_through(t: &mut [u32], text: &[u8], order: &mut [u32]) -> Answer
 }
 
 // Reads the text and sorts what stands in it.
-pub fn sort_text(text: &[u8], order: &mut [u32]) -> Answer
+fn sort_text(text: &[u8], order: &mut [u32]) -> Answer
     ensures { λ r. ⌜ result r (now (order .exit)) ≡ sheetResult (now (text .entry)) (now (order .entry)) ⌝ }
 {
     let mut t = [0u32; layout::SIZE];
@@ -44,10 +44,10 @@ fn print_number(out: i32, x: u32) {
 }
 
 // The first n numbers, one a line.
-fn print_lines(out: i32, order: &[u32; 256], n: usize) {
+fn print_lines(out: i32, order: &[u32; layout::VERTEX_LIMIT], n: usize) {
     let mut i = 0;
     while i < n {
-        if i < 256 {
+        if i < layout::VERTEX_LIMIT {
             print_number(out, order[i]);
         }
         i += 1;
@@ -68,7 +68,7 @@ fn print_refusal(out: i32, err: i32, a: Answer) {
 
 // Prints the sort of the text, one decimal number a line, or one line such as `refused 9`.
 pub fn print_sheet(out: i32, err: i32, text: &[u8]) {
-    let mut order = [0u32; 256];
+    let mut order = [0u32; layout::VERTEX_LIMIT];
     let a = sort_text(text, &mut order);
     match a {
         Answer::Done(n) => print_lines(out, &order, n),

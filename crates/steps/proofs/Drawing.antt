@@ -18,11 +18,12 @@ use Rattle.lists.proofs.Ascend.{ascending-apart}
 use Rattle.layout.specs.declared.Found.the-variants.{At}
 use Rattle.layout.specs.Content.{Table, liveVertices, position}
 use Rattle.layout.specs.Layout.{limit, vertexLimit, vertexCount, hyperedgeCount, hyperedgeAt, membersAt, readHyperedges, read}
-use Rattle.layout.specs.WellFormed.{Formed}
+use Rattle.layout.specs.Inner.{Formed}
 use Rattle.layout.specs.Steps.{stepsOf, isStep, makesStep, hasStep}
 use Rattle.layout.proofs.Position.{position-found}
 use Rattle.layout.proofs.Read.{live-length, live-ascends}
-use Rattle.steps.specs.Matrices.{numberOf, between, undirected, cell, Holds, stepsBetween, turnedBetween, undirectedBetween}
+use Rattle.steps.specs.Matrices.{numberOf, between, undirected, stepsBetween, undirectedBetween}
+use Rattle.steps.specs.Inner.{cell, Holds, turnedBetween}
 use Rattle.steps.specs.Drawn.{firstSteps, along, Drawn, putting}
 use Rattle.lists.proofs.Any.{any-snoc, any-more}
 use Rattle.steps.proofs.Placed.{steps-more, steps-none}

@@ -2,18 +2,17 @@
 use mathlib.Core.Path.{_≡_, refl, sym, ap, _∙_}
 use mathlib.Core.Bool.{Bool, true, false, _||_}
 use mathlib.Core.List.{List}
-use Prim.Native.Nat.{ℕ, _*_, _/_, _%_, _≤_, _<_}
-use native.Mathlib.Nat.{div-add-mod', mod-lt}
+use Prim.Native.Nat.{ℕ, _*_, _≤_, _<_}
 use native.Mathlib.Omega.{arith}
 use lib.Dec.{eqb, ltb}
-use lib.ListN.{length, getD, set, length-set, replicate, length-replicate, getD-replicate}
-use lib.Seq.{getD-set-same, getD-set-other, ext-getD}
+use lib.ListN.{getD, set, length-set, replicate, length-replicate, getD-replicate}
+use lib.Seq.{getD-set-same, getD-set-other}
 use borrow.Author.Tests.{eq-eqb, ne-eqb, lt-ltb, ltb-true}
 use Rattle.lists.specs.Tests.{_and_, bit}
 use Rattle.lists.proofs.Cases.{on, on-same, or-right, or-false, and-both, and-false-left, and-false-right}
 use Rattle.layout.specs.Layout.{vertexLimit}
 use Rattle.graph.specs.Reach.{matrix}
-use Rattle.steps.specs.Matrices.{cell, Holds}
+use Rattle.steps.specs.Inner.{cell, Holds}
 use Rattle.steps.specs.Drawn.{putting}
 
 -- two places of the matrix that differ are of two pairs
@@ -36,17 +35,6 @@ holds-ext {E} {F} {n} {m} h w = record {
   sized = w .sized;
   entry = λ i j li lj. w .entry i j li lj ∙ entry-same n i j (E i j) (F i j) (h i j);
 }
-
--- the relation determines every entry: two matrices that hold it are one
-pub holds-one : {E : ℕ → ℕ → Bool} {n : ℕ} {m p : List ℕ} → Holds E n m → Holds E n p → m ≡ p
-holds-one {E} {n} {m} {p} v w = ext-getD 0 m p (v .sized ∙ sym (w .sized)) same
-  where
-    same : (k : ℕ) → k < length m → getD m k 0 ≡ getD p k 0
-    same k h =
-        let c : cell (k / vertexLimit) (k % vertexLimit) ≡ k = div-add-mod' k vertexLimit in
-        let r : k % vertexLimit < vertexLimit = mod-lt k (omega arith) in
-        let q : k / vertexLimit < vertexLimit = omega (arith, v .sized) in
-        ap (λ (z : ℕ). getD m z 0) (sym c) ∙ v .entry (k / vertexLimit) (k % vertexLimit) q r ∙ sym (w .entry (k / vertexLimit) (k % vertexLimit) q r) ∙ ap (λ (z : ℕ). getD p z 0) c
 
 -- no mark: no pair
 pub holds-none : (E : ℕ → ℕ → Bool) (n : ℕ) → ((i j : ℕ) → E i j ≡ false) → Holds E n (replicate (vertexLimit * vertexLimit) 0)

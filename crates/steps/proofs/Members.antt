@@ -14,7 +14,7 @@ use Rattle.layout.specs.declared.Found.{Found}
 use Rattle.layout.specs.declared.Found.the-variants.{At, Nothing}
 use Rattle.layout.specs.Content.{liveVertices, isLive, membersLive, valid, position}
 use Rattle.layout.specs.Layout.{vertexLimit, hyperedgeLimit, recordSize, hyperedgesAt, hyperedgeWord, hyperedgeCount, countAt, hyperedgeAt, membersAt, readHyperedges, read}
-use Rattle.layout.specs.WellFormed.{Formed}
+use Rattle.layout.specs.Inner.{Formed}
 use Rattle.layout.proofs.Position.{missing-dead}
 use Rattle.layout.proofs.Read.{vertex-found}
 use Rattle.layout.proofs.Shape.{count-pos}

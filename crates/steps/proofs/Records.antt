@@ -9,10 +9,11 @@ use Rattle.lists.proofs.Ascend.{ascending-apart}
 use Rattle.walks.specs.Walks.{Reach, here, step, Closed}
 use Rattle.layout.specs.Content.{liveVertices, isLive}
 use Rattle.layout.specs.Layout.{limit, vertexCount, read}
-use Rattle.layout.specs.WellFormed.{Formed}
+use Rattle.layout.specs.Inner.{Formed}
 use Rattle.layout.proofs.Read.{live-length, live-ascends}
 use Rattle.graph.specs.Reach.{matrix, Edge}
-use Rattle.steps.specs.Matrices.{numberOf, between, Holds, Related}
+use Rattle.steps.specs.Matrices.{numberOf, between, Related}
+use Rattle.steps.specs.Inner.{Holds}
 use Rattle.steps.proofs.Holds.{holds-matrix}
 use Rattle.steps.proofs.Among.{Among}
 

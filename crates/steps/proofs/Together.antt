@@ -14,7 +14,8 @@ use Rattle.walks.specs.Walks.{Reach, here, step}
 use Rattle.walks.proofs.Walks.{reach-trans, reach-through, reach-map}
 use Rattle.layout.specs.Content.{Table, noHyperedge}
 use Rattle.layout.specs.Steps.{stepsOf, isStep, makesStep, hasStep}
-use Rattle.steps.specs.Matrices.{undirected, listsBoth, together, UndirectedIn, TogetherIn}
+use Rattle.steps.specs.Matrices.{undirected, listsBoth, together, TogetherIn}
+use Rattle.steps.specs.Inner.{UndirectedIn}
 use Rattle.lists.proofs.Any.{any-at, any-of}
 use Rattle.steps.proofs.Among.{step-together, together-swap}
 

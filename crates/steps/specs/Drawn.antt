@@ -8,7 +8,8 @@ use Rattle.lists.specs.Lists.{any}
 use Rattle.layout.specs.Content.{Table}
 use Rattle.layout.specs.Layout.{limit, vertexCount, read}
 use Rattle.layout.specs.Steps.{makesStep}
-use Rattle.steps.specs.Matrices.{between, Holds}
+use Rattle.steps.specs.Matrices.{between}
+use Rattle.steps.specs.Inner.{Holds}
 
 -- one of the first k hyperedges makes the step x to y
 unfoldable pub firstSteps : Table → ℕ → ℕ → ℕ → Bool

@@ -1,3 +1,4 @@
 pub mod Matrices
 pub mod Drawn
 pub mod Ordered
+pub mod Inner

@@ -6,7 +6,7 @@ ghost use lib.Dec.{ltb};
 ghost use lib.Seq.{paste};
 ghost use Rattle.lists.specs.Tests.{bit};
 ghost use Rattle.layout.specs.Layout.{limit, hyperedgeLimit, recordSize, size, hyperedgeCount, hyperedgeWord, hyperedgeAt, hyperedgeWords, countAt, read, words};
-ghost use Rattle.layout.specs.WellFormed.{Formed};
+ghost use Rattle.layout.specs.Inner.{Formed};
 ghost use Rattle.edits.specs.Edits.{without};
 ghost use Rattle.edits.specs.Removing.{otherWords, Stripped, stripVertex};
 use edits::shift::clear_words;

@@ -1,13 +1,15 @@
 -- The order of the roots: the latest finished first. Assumes nothing.
 use mathlib.Core.Path.{_≡_, refl, sym, ap, _∙_, subst}
 use mathlib.Core.Bool.{Bool, true, false, _||_}
-use mathlib.Core.List.{List, [], _∷_, reverse, reverse-append, reverseAux}
+use mathlib.Core.List.{List, [], _∷_, reverse, reverse-cons, reverse-append, reverseAux}
 use Prim.Native.Nat.{ℕ, suc, _-_, _≤_, _<_}
+use native.Mathlib.Nat.{not-suc-le-zero}
 use native.Mathlib.Omega.{arith}
 use lib.Dec.{eqb}
-use lib.ListN.{length, getD, take, replicate, length-reverse}
-use lib.Seq.{take-suc, getD-take, length-take-le}
-use Rattle.lists.specs.Lists.{memb, Below, turned}
+use lib.ListN.{length, getD, take, replicate, length-reverse, List·getD-append}
+use lib.Seq.{take-suc, getD-append-seam, getD-take, length-take-le}
+use Rattle.lists.specs.Lists.{memb, turned}
+use Rattle.lists.specs.Inner.{Below}
 use Rattle.lists.proofs.Count.{pigeon}
 use Rattle.lists.proofs.Memb.{memb-getD, below-memb}
 use Rattle.lists.proofs.Cases.{on-same, clash}
@@ -28,6 +30,18 @@ reverse-last : (o : List ℕ) (k : ℕ) → 0 < k → k ≤ length o → reverse
 reverse-last o k l b =
     let e : k ≡ suc (k - 1) = omega arith in
     ap (λ (i : ℕ). reverse (take i o)) e ∙ ap reverse (take-suc o (k - 1) 0 (omega arith)) ∙ reverse-append (take (k - 1) o) (getD o (k - 1) 0 ∷ [])
+
+reverse-at : (o : List ℕ) (i : ℕ) → i < length o → getD (reverse o) i 0 ≡ getD o (length o - suc i) 0
+reverse-at [] i l = absurd (not-suc-le-zero l)
+reverse-at (x ∷ o) i l =
+    ap (λ (r : List ℕ). getD r i 0) (reverse-cons x o)
+    ∙ on-same i (length o)
+    (λ s.
+    let e : suc (length o) - suc i ≡ 0 = omega arith in
+    rw (e, s, ← length-reverse o) (getD-append-seam (reverse o) x [] 0))
+    (λ ne.
+    let e : suc (length o) - suc i ≡ suc (length o - suc i) = omega arith in
+    rw e (List·getD-append (reverse o) (x ∷ []) 0 i (rw length-reverse (omega arith)) ∙ reverse-at o i (omega arith)))
 
 below-reverse : (n : ℕ) (a : List ℕ) → Below n a → Below n (reverse a)
 below-reverse n a b = go a [] b tt
@@ -61,6 +75,16 @@ parting-free E {n} {whole} {rest} {ids} h x y lx ly e z =
     clash (any-of (turned (mutuallyReached E n) x) (h .roots) 0 (k .0) (k .1) (shared-parts E n .meet r x y lr lx ly (k .2) e)) (parted-out g x lx z))
 
 -- ---- the order
+
+module _ (E : ℕ → ℕ → Bool) (n : ℕ) where
+  pub latest-length : length (latestFirst E n) ≡ length (finished E n)
+  unfolding latestFirst
+  latest-length = length-reverse (finished E n)
+
+  -- the same, from the end
+  pub latest-at : (i : ℕ) → i < length (finished E n) → getD (latestFirst E n) i 0 ≡ getD (finished E n) (length (finished E n) - suc i) 0
+  unfolding latestFirst
+  latest-at i l = reverse-at (finished E n) i l
 
 module _ (E : ℕ → ℕ → Bool) (n : ℕ) (small : n ≤ 256) where
   pub latest-below : Below n (latestFirst E n)

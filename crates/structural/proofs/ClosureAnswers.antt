@@ -16,13 +16,14 @@ use Rattle.lists.proofs.Memb.{memb-getD}
 use Rattle.walks.specs.Walks.{Reach}
 use Rattle.layout.specs.Content.{liveVertices, isLive}
 use Rattle.layout.specs.Layout.{limit, vertexCount, read}
-use Rattle.layout.specs.WellFormed.{Formed}
+use Rattle.layout.specs.Inner.{Formed}
 use Rattle.layout.specs.Answers.{Result, listed}
 use Rattle.layout.specs.Steps.{hasStep, StepIn}
 use Rattle.layout.proofs.Read.{live-length}
 use Rattle.graph.specs.Reach.{matrix}
 use Rattle.graph.proofs.Bfs.{bfs-sound, bfs-complete}
-use Rattle.steps.specs.Matrices.{numberOf, stepsBetween, Holds}
+use Rattle.steps.specs.Matrices.{numberOf, stepsBetween}
+use Rattle.steps.specs.Inner.{Holds}
 use Rattle.steps.proofs.Among.{steps-among}
 use Rattle.steps.proofs.Records.{record-once, reach-numbers, reach-records}
 use Rattle.traversal.specs.Traversal.{reachable}

@@ -1,97 +1,47 @@
--- The components that are listed are those of the definition: of co-membership, and of mutual reachability. Assumes nothing.
+-- The components that are listed are those of the definition, in its order: of co-membership, and of mutual reachability. Assumes nothing.
 use mathlib.Core.Path.{_≡_, refl, sym, ap, _∙_, subst}
 use mathlib.Core.Bool.{Bool, true, or-comm}
-use mathlib.Core.List.{List, [], map}
-use Prim.Native.Nat.{ℕ, _<_}
+use mathlib.Core.List.{List, map}
+use Prim.Native.Nat.{ℕ, suc, _-_, _<_}
+use native.Mathlib.Nat.{lt-irrefl}
 use native.Mathlib.Omega.{arith}
 use lib.ListN.{length, getD}
 use Rattle.lists.specs.Tests.{every}
-use Rattle.lists.specs.Lists.{memb, Below, Ascending, upTo}
+use Rattle.lists.specs.Lists.{Distinct, upTo}
+use Rattle.lists.proofs.Cases.{on-same, on-below}
 use Rattle.lists.proofs.Every.{every-at, every-of}
 use Rattle.lists.proofs.Maps.{map-length}
+use Rattle.lists.proofs.Memb.{below-memb}
+use Rattle.lists.proofs.Tab.{length-tab, getD-tab}
 use Rattle.walks.specs.Walks.{Reach}
 use Rattle.walks.proofs.Walks.{reach-trans}
 use Rattle.layout.specs.Content.{liveVertices, isLive}
 use Rattle.layout.specs.Layout.{limit, vertexCount, read}
-use Rattle.layout.specs.WellFormed.{Formed}
+use Rattle.layout.specs.Inner.{Formed}
 use Rattle.layout.specs.Steps.{hasStep}
 use Rattle.layout.proofs.Read.{live-length}
+use Rattle.graph.specs.Reach.{Symmetric}
 use Rattle.graph.proofs.Bfs.{bfs-sound, bfs-complete}
+use Rattle.graph.proofs.Levels.{distinct-apart}
 use Rattle.steps.specs.Matrices.{undirected, numberOf, stepsBetween, undirectedBetween}
 use Rattle.steps.proofs.Among.{steps-among, links-among, together-swap}
 use Rattle.steps.proofs.Records.{numbers-rise, record-once, record-of, reach-numbers, reach-records}
 use Rattle.steps.proofs.Together.{reach-swap, reach-together, reach-linked}
-use Rattle.traversal.proofs.Mapped.{memb-map, map-memb}
-use Rattle.components.specs.Classes.{reached, class, rootsOf, classes}
-use Rattle.graph.specs.Reach.{Symmetric}
-use Rattle.components.proofs.Roots.{Equivalence}
+use Rattle.traversal.proofs.Mapped.{distinct-map}
+use Rattle.depth.specs.Finish.{finished}
+use Rattle.depth.proofs.Finish.{finished-once, finished-below}
+use Rattle.components.specs.Classes.{reached}
+use Rattle.components.proofs.Ranked.{Ranked}
 use Rattle.components.proofs.Linked.{upto-below, upto-memb, reached-parts}
-use Rattle.components.proofs.Members.{chosen-passes, chosen-has, chosen-ascends, getD-map, class-some, class-only, class-joined, class-whole}
+use Rattle.components.proofs.Members.{getD-map}
+use Rattle.components.proofs.Components.{classes-components}
+use Rattle.components.proofs.Unique.{components-unique}
 use Rattle.strong.specs.Strong.{latestFirst}
 use Rattle.strong.proofs.Shared.{shared-both, shared-forth, shared-back, shared-parts}
-use Rattle.strong.proofs.Latest.{latest-below, latest-all}
-use Rattle.structural.specs.Components.{Linked, Mutual, Components, connected, connectedComponents, strongComponents}
+use Rattle.strong.proofs.Latest.{latest-length, latest-at, latest-below, latest-all}
+use Rattle.structural.specs.Components.{Linked, Mutual, finishOrder, FinishedAfter, ConnectedComponentsIn, StrongComponentsIn, connected, connectedComponents, strongComponents}
 use Rattle.structural.proofs.ClosureAnswers.{record-live}
-
--- ---- from records to numbers: R is P, said of the numbers
-
--- the components by number
-abbrev listing : List ℕ → (ℕ → ℕ → Bool) → List ℕ → List (List ℕ)
-listing ws P order = map (map (numberOf (read limit ws))) (map (class P (vertexCount ws)) (rootsOf P order))
-
-module _ {ws : List ℕ} (f : Formed limit ws) {P : ℕ → ℕ → Bool} (q : Equivalence P (vertexCount ws)) (order : List ℕ) (b : Below (vertexCount ws) order)
-    (all : (v : ℕ) → v < vertexCount ws → memb v order ≡ true) (R : ℕ → ℕ → Type 0)
-    (there : (i j : ℕ) → i < vertexCount ws → j < vertexCount ws → P i j ≡ true → R (numberOf (read limit ws) i) (numberOf (read limit ws) j))
-    (back : (i j : ℕ) → i < vertexCount ws → j < vertexCount ws → R (numberOf (read limit ws) i) (numberOf (read limit ws) j) → P i j ≡ true) where
-  long : length (listing ws P order) ≡ length (rootsOf P order)
-  long = map-length (map (numberOf (read limit ws))) (map (class P (vertexCount ws)) (rootsOf P order)) ∙ map-length (class P (vertexCount ws)) (rootsOf P order)
-
-  -- the k-th
-  at : (k : ℕ) → k < length (listing ws P order) → getD (listing ws P order) k [] ≡ map (numberOf (read limit ws)) (class P (vertexCount ws) (getD (rootsOf P order) k 0))
-  at k l =
-      let lr : k < length (rootsOf P order) = rw long at l in
-      getD-map (map (numberOf (read limit ws))) (map (class P (vertexCount ws)) (rootsOf P order)) k [] [] (rw map-length lr)
-      ∙ ap (map (numberOf (read limit ws))) (getD-map (class P (vertexCount ws)) (rootsOf P order) k 0 [] lr)
-
-  -- a member is the number of a record that is joined with the root
-  member : (k x : ℕ) → k < length (listing ws P order) → memb x (getD (listing ws P order) k []) ≡ true
-      → (i : ℕ) × (i < vertexCount ws) × (P (getD (rootsOf P order) k 0) i ≡ true) × (numberOf (read limit ws) i ≡ x)
-  member k x l e =
-      let m = map-memb (numberOf (read limit ws)) x (class P (vertexCount ws) (getD (rootsOf P order) k 0)) (rw (at k l) at e) in
-      let c = chosen-passes (P (getD (rootsOf P order) k 0)) (vertexCount ws) (m .0) (m .1) in
-      (m .0, c .0, c .1, m .2)
-
-  is-member : (k i : ℕ) → k < length (listing ws P order) → i < vertexCount ws → P (getD (rootsOf P order) k 0) i ≡ true → memb (numberOf (read limit ws) i) (getD (listing ws P order) k []) ≡ true
-  is-member k i l li p =
-      rw (at k l) (memb-map (numberOf (read limit ws)) i (class P (vertexCount ws) (getD (rootsOf P order) k 0)) (chosen-has (P (getD (rootsOf P order) k 0)) (vertexCount ws) i li p))
-
-  components-numbers : Components R (liveVertices (read limit ws)) (listing ws P order)
-  components-numbers = record {
-    some = λ x l.
-        let i = record-of ws x l in
-        let k = class-some q order b all (i .0) (i .1) in
-        (k .0, rw long (k .1), subst (λ (z : ℕ). memb z (getD (listing ws P order) (k .0) []) ≡ true) (i .2) (is-member (k .0) (i .0) (rw long (k .1)) (i .1) (k .2)));
-    only = λ j k x lj lk mj mk.
-        let i = member j x lj mj in
-        let h = member k x lk mk in
-        let s : h .0 ≡ i .0 = record-once f (h .0) (i .0) (h .1) (i .1) (h .3 ∙ sym (i .3)) in
-        class-only q order b j k (i .0) (rw long at lj) (rw long at lk) (i .1) (i .2) (subst (λ (z : ℕ). P (getD (rootsOf P order) k 0) z ≡ true) s (h .2));
-    alive = λ k x l m.
-        let i = member k x l m in
-        subst (λ (z : ℕ). isLive (liveVertices (read limit ws)) z ≡ true) (i .3) (record-live ws (i .0) (i .1));
-    related = λ k x y l mx my.
-        let i = member k x l mx in
-        let j = member k y l my in
-        subst (λ (z : ℕ). R z y) (i .3) (subst (λ (z : ℕ). R (numberOf (read limit ws) (i .0)) z) (j .3)
-        (there (i .0) (j .0) (i .1) (j .1) (class-joined q order b k (i .0) (j .0) (rw long at l) (i .1) (j .1) (i .2) (j .2))));
-    whole = λ k x y l mx ly r.
-        let i = member k x l mx in
-        let j = record-of ws y ly in
-        let s : R (numberOf (read limit ws) (i .0)) (numberOf (read limit ws) (j .0)) = subst (λ (z : ℕ). R z (numberOf (read limit ws) (j .0))) (sym (i .3)) (subst (λ (z : ℕ). R x z) (sym (j .2)) r) in
-        subst (λ (z : ℕ). memb z (getD (listing ws P order) k []) ≡ true) (j .2)
-        (is-member k (j .0) l (j .1) (class-whole q order b k (i .0) (j .0) (rw long at l) (i .1) (j .1) (i .2) (back (i .0) (j .0) (i .1) (j .1) s)));
-    sorted = λ k l. subst Ascending (sym (at k l)) (chosen-ascends (numberOf (read limit ws)) (P (getD (rootsOf P order) k 0)) (vertexCount ws) (numbers-rise f));
-  }
+use Rattle.structural.proofs.ComponentsRecords.{components-numbers}
 
 -- ---- the two relations, by record and by number
 
@@ -121,26 +71,100 @@ module _ {ws : List ℕ} (f : Formed limit ws) where
       let t = read limit ws in
       or-comm (hasStep t (numberOf t i) (numberOf t j)) (hasStep t (numberOf t j) (numberOf t i))
 
+  -- ---- the two orders: each comes before all that follow
+
+  records-ranked : Ranked (λ i j. numberOf (read limit ws) i < numberOf (read limit ws) j) (upTo (vertexCount ws))
+  records-ranked i j l k =
+      let n : ℕ = vertexCount ws in
+      let lj : j < n = rw length-tab at k in
+      rw (getD-tab (λ v. v) n i 0 (omega arith), getD-tab (λ v. v) n j 0 lj) (numbers-rise f i j l lj)
+
+  -- the records as they are finished
+  abbrev finishes : List ℕ
+  finishes = finished (stepsBetween (read limit ws)) (vertexCount ws)
+
+  finish-as : finishOrder (read limit ws) ≡ map (numberOf (read limit ws)) finishes
+  finish-as = rw (live-length limit ws)
+
+  finish-length : length (finishOrder (read limit ws)) ≡ length finishes
+  finish-length = ap length finish-as ∙ map-length (numberOf (read limit ws)) finishes
+
+  -- the i-th from the end
+  finish-at : (i : ℕ) → i < length finishes
+      → getD (finishOrder (read limit ws)) (length finishes - suc i) 0 ≡ numberOf (read limit ws) (getD (latestFirst (stepsBetween (read limit ws)) (vertexCount ws)) i 0)
+  finish-at i l =
+      ap (λ (o : List ℕ). getD o (length finishes - suc i) 0) finish-as
+      ∙ getD-map (numberOf (read limit ws)) finishes (length finishes - suc i) 0 0 (omega arith)
+      ∙ ap (numberOf (read limit ws)) (sym (latest-at (stepsBetween (read limit ws)) (vertexCount ws) i l))
+
+  latest-ranked : Ranked (λ i j. FinishedAfter (read limit ws) (numberOf (read limit ws) i) (numberOf (read limit ws) j)) (latestFirst (stepsBetween (read limit ws)) (vertexCount ws))
+  latest-ranked i j l k =
+      let lj : j < length finishes = rw latest-length at k in
+      record {
+        place = length finishes - suc i;
+        earlier = length finishes - suc j;
+        after = omega arith;
+        within = omega (arith, finish-length);
+        is = finish-at i (omega arith);
+        was = finish-at j lj;
+      }
+
+  -- ---- no two vertices are finished each after the other
+
+  finish-once : Distinct (finishOrder (read limit ws))
+  finish-once =
+      let small = f .shape .vertices-le in
+      let below = below-memb (vertexCount ws) finishes (finished-below (stepsBetween (read limit ws)) (vertexCount ws) small) in
+      subst Distinct (sym finish-as)
+      (distinct-map (numberOf (read limit ws)) finishes (λ x y mx my e. record-once f x y (below x mx) (below y my) e) (finished-once (stepsBetween (read limit ws)) (vertexCount ws) small))
+
+  finish-place : (i j : ℕ) → i < length (finishOrder (read limit ws)) → j < length (finishOrder (read limit ws)) → getD (finishOrder (read limit ws)) i 0 ≡ getD (finishOrder (read limit ws)) j 0 → i ≡ j
+  finish-place i j li lj e =
+      on-same i j (λ s. s)
+      (λ ne. absurd (on-below i j
+      (λ l. distinct-apart (finishOrder (read limit ws)) finish-once i j l lj e)
+      (λ l. distinct-apart (finishOrder (read limit ws)) finish-once j i (omega arith) li (sym e))))
+
+  finished-one-way : (x y : ℕ) → FinishedAfter (read limit ws) x y → FinishedAfter (read limit ws) y x → ⊥
+  finished-one-way x y a b =
+      let s : a .place ≡ b .earlier = finish-place (a .place) (b .earlier) (a .within) (omega (arith, b .after, b .within)) (a .is ∙ sym (b .was)) in
+      let r : a .earlier ≡ b .place = finish-place (a .earlier) (b .place) (omega (arith, a .after, a .within)) (b .within) (a .was ∙ sym (b .is)) in
+      lt-irrefl (a .place) (omega (arith, a .after, b .after))
+
   -- ---- theorems
 
-  -- two vertices are in one connected component exactly where they are linked
-  pub connected-components : Components (Linked (read limit ws)) (liveVertices (read limit ws)) (connectedComponents (read limit ws))
-  unfolding connectedComponents classes
+  -- what is listed are the connected components, ordered by smallest member
+  pub connected-components : ConnectedComponentsIn (read limit ws) (connectedComponents (read limit ws))
+  unfolding connectedComponents
   connected-components =
+      let E : ℕ → ℕ → Bool = undirectedBetween (read limit ws) in
+      let n : ℕ = vertexCount ws in
+      let g : ℕ → ℕ = numberOf (read limit ws) in
       rw (live-length limit ws)
-      (components-numbers f (reached-parts (undirectedBetween (read limit ws)) (vertexCount ws) links-symmetric) (upTo (vertexCount ws)) (upto-below (vertexCount ws)) (upto-memb (vertexCount ws)) (Linked (read limit ws))
-      (λ i j li _ e. links-there i j li e) links-back)
+      (components-numbers g (numbers-rise f) (record-once f) (record-live ws) (record-of ws) (Linked (read limit ws)) (λ x y. x < y)
+      (classes-components (reached-parts E n links-symmetric) (upTo n) (upto-below n) (upto-memb n) (λ i j. Linked (read limit ws) (g i) (g j)) (λ i j li _ e. links-there i j li e) links-back
+      (λ i j. g i < g j) records-ranked))
 
-  -- two vertices are in one strong component exactly where each is reached from the other
-  pub strong-components : Components (Mutual (read limit ws)) (liveVertices (read limit ws)) (strongComponents (read limit ws))
-  unfolding strongComponents classes
+  -- and no other listing has them in that order
+  pub connected-only : (cs : List (List ℕ)) → ConnectedComponentsIn (read limit ws) cs → cs ≡ connectedComponents (read limit ws)
+  connected-only cs c = components-unique (λ x y l k. lt-irrefl x (omega (arith, l, k))) c connected-components
+
+  -- what is listed are the strong components, the one with the latest finished vertex first
+  pub strong-components : StrongComponentsIn (read limit ws) (strongComponents (read limit ws))
+  unfolding strongComponents
   strong-components =
       let E : ℕ → ℕ → Bool = stepsBetween (read limit ws) in
       let n : ℕ = vertexCount ws in
+      let g : ℕ → ℕ = numberOf (read limit ws) in
       rw (live-length limit ws)
-      (components-numbers f (shared-parts E n) (latestFirst E n) (latest-below E n (f .shape .vertices-le)) (latest-all E n (f .shape .vertices-le)) (Mutual (read limit ws))
+      (components-numbers g (numbers-rise f) (record-once f) (record-live ws) (record-of ws) (Mutual (read limit ws)) (FinishedAfter (read limit ws))
+      (classes-components (shared-parts E n) (latestFirst E n) (latest-below E n (f .shape .vertices-le)) (latest-all E n (f .shape .vertices-le)) (λ i j. Mutual (read limit ws) (g i) (g j))
       (λ i j li lj e. record { forth = steps-there i j li (shared-forth E n i j e); back = steps-there j i lj (shared-back E n i j e) })
-      (λ i j li lj m. shared-both E n i j (steps-back i j li lj (m .forth)) (steps-back j i lj li (m .back))))
+      (λ i j li lj m. shared-both E n i j (steps-back i j li lj (m .forth)) (steps-back j i lj li (m .back)))
+      (λ i j. FinishedAfter (read limit ws) (g i) (g j)) latest-ranked))
+
+  pub strong-only : (cs : List (List ℕ)) → StrongComponentsIn (read limit ws) cs → cs ≡ strongComponents (read limit ws)
+  strong-only cs c = components-unique finished-one-way c strong-components
 
   -- connected: all live vertices are linked
   pub connected-linked : connected (read limit ws) ≡ true → (x y : ℕ) → isLive (liveVertices (read limit ws)) x ≡ true → isLive (liveVertices (read limit ws)) y ≡ true → Linked (read limit ws) x y

@@ -11,14 +11,15 @@ use Rattle.lists.specs.Lists.{memb, flat, counted, upTo}
 use Rattle.lists.proofs.Every.{every-ext, every-on, every-no, every-end}
 use Rattle.layout.specs.declared.Answer.the-variants.{Done}
 use Rattle.layout.specs.Layout.{limit, vertexCount, read}
-use Rattle.layout.specs.WellFormed.{Formed}
+use Rattle.layout.specs.Inner.{Formed}
 use Rattle.layout.specs.Answers.{Result, result, listed}
 use Rattle.layout.specs.Steps.{hasStep}
 use Rattle.layout.proofs.Read.{live-length}
 use Rattle.graph.specs.Reach.{matrix, Symmetric}
 use Rattle.graph.specs.Bfs.{bfs}
 use Rattle.graph.specs.Held.{Marks}
-use Rattle.steps.specs.Matrices.{undirected, numberOf, stepsBetween, turnedBetween, undirectedBetween, Holds}
+use Rattle.steps.specs.Matrices.{undirected, numberOf, stepsBetween, undirectedBetween}
+use Rattle.steps.specs.Inner.{turnedBetween, Holds}
 use Rattle.steps.proofs.Holds.{holds-matrix}
 use Rattle.traversal.proofs.Ext.{bfs-ext}
 use Rattle.components.specs.Classes.{reached, classes}

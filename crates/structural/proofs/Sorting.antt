@@ -14,7 +14,7 @@ use Rattle.lists.proofs.Maps.{map-length}
 use Rattle.layout.specs.declared.Answer.the-variants.{Done, ClosedWalk}
 use Rattle.layout.specs.Answers.{Result, result, listed}
 use Rattle.layout.specs.Layout.{limit, vertexCount, read}
-use Rattle.layout.specs.WellFormed.{Formed}
+use Rattle.layout.specs.Inner.{Formed}
 use Rattle.layout.specs.Steps.{hasStep}
 use Rattle.layout.proofs.Read.{live-length}
 use Rattle.order.specs.Greedy.{greedy}

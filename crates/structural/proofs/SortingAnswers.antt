@@ -10,7 +10,7 @@ use Rattle.lists.specs.Lists.{isBelow}
 use Rattle.lists.proofs.Cases.{on}
 use Rattle.layout.specs.declared.Answer.the-variants.{Done, ClosedWalk}
 use Rattle.layout.specs.Layout.{limit, vertexCount, read}
-use Rattle.layout.specs.WellFormed.{Formed}
+use Rattle.layout.specs.Inner.{Formed}
 use Rattle.layout.specs.Answers.{Result, result, listed}
 use Rattle.layout.specs.Steps.{hasStep}
 use Rattle.layout.proofs.Read.{live-length}
@@ -19,7 +19,8 @@ use Rattle.order.specs.Sort.{Smallest}
 use Rattle.order.specs.Post.{Sorted}
 use Rattle.order.proofs.Greedy.{greedy-below, greedy-sorts}
 use Rattle.order.proofs.Smallest.{smallest-unique, smallest-as}
-use Rattle.steps.specs.Matrices.{numberOf, stepsBetween, Holds}
+use Rattle.steps.specs.Matrices.{numberOf, stepsBetween}
+use Rattle.steps.specs.Inner.{Holds}
 use Rattle.steps.specs.Ordered.{Ordered}
 use Rattle.steps.proofs.Among.{steps-among}
 use Rattle.steps.proofs.Numbers.{ordered-take}

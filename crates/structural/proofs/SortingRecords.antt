@@ -8,13 +8,14 @@ use native.Mathlib.Nat.{not-suc-le-zero, le-of-suc-le-suc}
 use lib.Dec.{eqb}
 use lib.ListN.{length, getD}
 use borrow.Author.Tests.{lt-ltb, ltb-true}
-use Rattle.lists.specs.Lists.{memb, isBelow, Distinct, Below}
+use Rattle.lists.specs.Lists.{memb, isBelow, Distinct}
+use Rattle.lists.specs.Inner.{Below}
 use Rattle.lists.proofs.Cases.{on, clash, or-right, test-ext}
 use Rattle.lists.proofs.Maps.{map-length}
 use Rattle.lists.proofs.Memb.{memb-self, memb-getD, below-memb}
 use Rattle.layout.specs.Content.{liveVertices, isLive}
 use Rattle.layout.specs.Layout.{limit, vertexCount, read}
-use Rattle.layout.specs.WellFormed.{Formed}
+use Rattle.layout.specs.Inner.{Formed}
 use Rattle.layout.specs.Steps.{StepIn}
 use Rattle.layout.proofs.Read.{live-length}
 use Rattle.graph.specs.Reach.{Edge}

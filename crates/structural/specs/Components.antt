@@ -1,18 +1,20 @@
 -- Components of a table, by co-membership and by mutual reachability. Assumes nothing.
 use mathlib.Core.Path.{_≡_}
-use mathlib.Core.Bool.{Bool, true}
+use mathlib.Core.Bool.{Bool}
 use mathlib.Core.List.{List, [], map}
 use Prim.Native.Nat.{ℕ, _<_}
 use lib.ListN.{length, getD}
 use Rattle.lists.specs.Tests.{bit, every}
-use Rattle.lists.specs.Lists.{memb, flat, Ascending, counted, upTo}
+use Rattle.lists.specs.Lists.{flat, counted, upTo}
 use Rattle.walks.specs.Walks.{Reach}
 use Rattle.layout.specs.declared.Answer.the-variants.{Done}
 use Rattle.layout.specs.Content.{Table, liveVertices, isLive}
 use Rattle.layout.specs.Steps.{StepIn}
 use Rattle.layout.specs.Answers.{Result, result, listed}
 use Rattle.steps.specs.Matrices.{TogetherIn, numberOf, stepsBetween, undirectedBetween}
+use Rattle.depth.specs.Finish.{finished}
 use Rattle.components.specs.Classes.{reached, classes}
+use Rattle.components.specs.Components.{Components}
 use Rattle.strong.specs.Strong.{strong}
 
 -- x and y are linked through co-membership
@@ -24,21 +26,32 @@ pub record Mutual (t : Table) (x y : ℕ) : Type 0 where
   pub forth : Reach (StepIn t) x y
   pub back : Reach (StepIn t) y x
 
--- cs are the components by R: every live vertex is in one and in no other, two of one component are related, whatever is
--- related to a member is a member, and each component is sorted
-pub record Components (R : ℕ → ℕ → Type 0) (live : List ℕ) (cs : List (List ℕ)) : Type 0 where
-  pub some : (x : ℕ) → isLive live x ≡ true → (k : ℕ) × (k < length cs) × (memb x (getD cs k []) ≡ true)
-  pub only : (j k x : ℕ) → j < length cs → k < length cs → memb x (getD cs j []) ≡ true → memb x (getD cs k []) ≡ true → j ≡ k
-  pub alive : (k x : ℕ) → k < length cs → memb x (getD cs k []) ≡ true → isLive live x ≡ true
-  pub related : (k x y : ℕ) → k < length cs → memb x (getD cs k []) ≡ true → memb y (getD cs k []) ≡ true → R x y
-  pub whole : (k x y : ℕ) → k < length cs → memb x (getD cs k []) ≡ true → isLive live y ≡ true → R x y → memb y (getD cs k []) ≡ true
-  pub sorted : (k : ℕ) → k < length cs → Ascending (getD cs k [])
-
--- ---- computed by record: the records ascend by number
-
 -- how many vertices are live
 abbrev pub liveCount : Table → ℕ
 liveCount t = length (liveVertices t)
+
+-- the live vertices as they are finished: depth first from ascending starts, largest neighbour first, by record; records ascend by number
+abbrev pub finishOrder : Table → List ℕ
+finishOrder t = map (numberOf t) (finished (stepsBetween t) (liveCount t))
+
+-- x is finished after y: it stands after y in that order
+pub record FinishedAfter (t : Table) (x y : ℕ) : Type 0 where
+  pub place : ℕ
+  pub earlier : ℕ
+  pub after : earlier < place
+  pub within : place < length (finishOrder t)
+  pub is : getD (finishOrder t) place 0 ≡ x
+  pub was : getD (finishOrder t) earlier 0 ≡ y
+
+-- cs are the connected components: of linked vertices, ordered by smallest member
+abbrev pub ConnectedComponentsIn : Table → List (List ℕ) → Type 0
+ConnectedComponentsIn t cs = Components (isLive (liveVertices t)) (Linked t) _<_ cs
+
+-- cs are the strong components: of mutual reachability, ordered by latest finished member, the latest first
+abbrev pub StrongComponentsIn : Table → List (List ℕ) → Type 0
+StrongComponentsIn t cs = Components (isLive (liveVertices t)) (Mutual t) (FinishedAfter t) cs
+
+-- ---- computed by record: the records ascend by number
 
 -- connected when the table is empty, or all vertices are linked: every record is reached from the first, whatever the steps' direction
 unfoldable pub connected : Table → Bool

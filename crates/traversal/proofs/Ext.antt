@@ -7,7 +7,8 @@ use native.Mathlib.Omega.{arith}
 use lib.Dec.{ltb}
 use lib.ListN.{length, getD}
 use borrow.Author.Tests.{ltb-true}
-use Rattle.lists.specs.Lists.{memb, Below}
+use Rattle.lists.specs.Lists.{memb}
+use Rattle.lists.specs.Inner.{Below}
 use Rattle.lists.proofs.Cases.{on}
 use Rattle.lists.proofs.Memb.{memb-getD, below-memb, below-snoc}
 use Rattle.graph.specs.Bfs.{push, spread, run, bfs}

@@ -5,20 +5,21 @@ use mathlib.Core.List.{List, map}
 use Prim.Native.Nat.{ℕ, _≤_, _<_}
 use native.Mathlib.Omega.{arith}
 use lib.ListN.{length, take}
-use Rattle.lists.specs.Lists.{Below}
+use Rattle.lists.specs.Inner.{Below}
 use Rattle.lists.proofs.Count.{pigeon}
 use Rattle.layout.specs.declared.Found.{Found}
 use Rattle.layout.specs.declared.Found.the-variants.{At, Nothing}
 use Rattle.layout.specs.Content.{liveVertices, position}
 use Rattle.layout.specs.Layout.{limit, vertexCount, read}
-use Rattle.layout.specs.WellFormed.{Formed}
+use Rattle.layout.specs.Inner.{Formed}
 use Rattle.layout.specs.Answers.{Result, result, onLive, listed, vertexMissing}
 use Rattle.layout.proofs.Position.{found-live, missing-dead}
 use Rattle.layout.proofs.Read.{live-length}
 use Rattle.graph.specs.Reach.{matrix}
 use Rattle.graph.specs.Bfs.{bfs}
 use Rattle.depth.specs.Pre.{preorder}
-use Rattle.steps.specs.Matrices.{numberOf, stepsBetween, Holds}
+use Rattle.steps.specs.Matrices.{numberOf, stepsBetween}
+use Rattle.steps.specs.Inner.{Holds}
 use Rattle.steps.specs.Ordered.{Ordered}
 use Rattle.steps.proofs.Holds.{holds-matrix}
 use Rattle.traversal.specs.declared.Order.{Order}

@@ -16,7 +16,7 @@ use Rattle.layout.specs.declared.Found.the-variants.{At, Nothing}
 use Rattle.layout.specs.declared.Answer.the-variants.{Done}
 use Rattle.layout.specs.Content.{liveVertices, position}
 use Rattle.layout.specs.Layout.{limit, vertexCount, read}
-use Rattle.layout.specs.WellFormed.{Formed}
+use Rattle.layout.specs.Inner.{Formed}
 use Rattle.layout.specs.Answers.{result, onLive, vertexMissing}
 use Rattle.layout.proofs.Position.{position-found, found-live, missing-dead}
 use Rattle.layout.proofs.Read.{live-length, vertex-found}
@@ -24,7 +24,8 @@ use Rattle.graph.specs.Reach.{matrix}
 use Rattle.graph.specs.Bfs.{bfs}
 use Rattle.graph.specs.Held.{Marks}
 use Rattle.graph.proofs.Bfs.{bfs-below}
-use Rattle.steps.specs.Matrices.{numberOf, stepsBetween, Holds}
+use Rattle.steps.specs.Matrices.{numberOf, stepsBetween}
+use Rattle.steps.specs.Inner.{Holds}
 use Rattle.steps.proofs.Holds.{holds-matrix}
 use Rattle.steps.proofs.Records.{record-once}
 use Rattle.traversal.specs.Traversal.{listFrom, traversal, reachable, reachableResult}

@@ -2,7 +2,8 @@
 use mathlib.Core.Path.{_≡_}
 use mathlib.Core.Bool.{Bool, true}
 use Prim.Native.Nat.{ℕ, _≤_, _<_}
-use Rattle.lists.specs.Lists.{memb, Distinct, Below}
+use Rattle.lists.specs.Lists.{memb, Distinct}
+use Rattle.lists.specs.Inner.{Below}
 use Rattle.lists.proofs.Memb.{below-memb}
 use Rattle.walks.specs.Walks.{Reach, here, step}
 use Rattle.graph.specs.Reach.{Edge}

@@ -10,7 +10,7 @@ use Rattle.lists.proofs.Maps.{map-length}
 use Rattle.lists.proofs.Memb.{memb-getD}
 use Rattle.layout.specs.Content.{liveVertices, isLive}
 use Rattle.layout.specs.Layout.{limit, vertexCount, read}
-use Rattle.layout.specs.WellFormed.{Formed}
+use Rattle.layout.specs.Inner.{Formed}
 use Rattle.layout.specs.Steps.{hasStep, StepIn}
 use Rattle.graph.specs.Reach.{Edge}
 use Rattle.graph.specs.Walk.{ReachIn, start, onward, Least}

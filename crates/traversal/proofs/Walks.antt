@@ -8,7 +8,7 @@ use Rattle.lists.proofs.Memb.{below-memb}
 use Rattle.walks.specs.Walks.{Reach, here, step}
 use Rattle.layout.specs.Content.{liveVertices, isLive}
 use Rattle.layout.specs.Layout.{limit, vertexLimit, vertexCount, read}
-use Rattle.layout.specs.WellFormed.{Formed}
+use Rattle.layout.specs.Inner.{Formed}
 use Rattle.layout.specs.Steps.{hasStep, StepIn}
 use Rattle.layout.proofs.Position.{position-here}
 use Rattle.layout.proofs.Read.{live-length, live-ascends}

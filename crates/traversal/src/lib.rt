@@ -6,7 +6,7 @@ ghost use Rattle.lists.specs.Tests.{bit};
 ghost use Rattle.lists.specs.Lists.{memb};
 ghost use Rattle.layout.specs.Content.{liveVertices, position};
 ghost use Rattle.layout.specs.Layout.{limit, vertexCount, read};
-ghost use Rattle.layout.specs.WellFormed.{Formed};
+ghost use Rattle.layout.specs.Inner.{Formed};
 ghost use Rattle.layout.specs.Answers.{result, onFormed, listed};
 ghost use Rattle.graph.specs.Bfs.{bfs};
 ghost use Rattle.steps.specs.Matrices.{stepsBetween};

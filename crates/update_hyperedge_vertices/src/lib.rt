@@ -5,7 +5,7 @@ ghost use lib.ListN.{length};
 ghost use Rattle.layout.specs.declared.Found.the-variants.{At};
 ghost use Rattle.layout.specs.Content.{liveHyperedges, position};
 ghost use Rattle.layout.specs.Layout.{limit, read};
-ghost use Rattle.layout.specs.WellFormed.{Formed};
+ghost use Rattle.layout.specs.Inner.{Formed};
 ghost use Rattle.layout.specs.Answers.{onFormed, result};
 ghost use Rattle.edits.specs.Results.{updateResult};
 ghost use Rattle.edits.specs.Stages.{updateLiveResult, updateJudgedResult};

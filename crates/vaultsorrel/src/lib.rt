@@ -1,12 +1,12 @@
 // The C interface: each function calls the entry point of its name and gives its answer as number and detail.
 ghost use mathlib.Core.Path.{_≡_};
 ghost use mathlib.Core.List.{[]};
-ghost use mathlib.Core.Bool.{false, true};
 ghost use Rattle.layout.specs.Answers.{onFormed};
 ghost use Rattle.edits.specs.Results.{addVertexResult, addHyperedgeResult, updateResult, removeVertexResult, removeHyperedgeResult, clearResult, emptyResult};
 ghost use Rattle.vaultsorrel.specs.Replies.{replied};
 ghost use Rattle.lookups.specs.Results.{relatedResult, fullAdjacentResult, degreeResult, connectingResult, intersectionsResult, weighingResult, fullHyperedgesResult, containsResult, vertexIndexResult};
-ghost use Rattle.lookups.specs.declared.Relation.the-variants.{From, To, Around};
+ghost use Rattle.lookups.specs.declared.Direction.the-variants.{From, To};
+ghost use Rattle.lookups.specs.declared.Relation.the-variants.{Along, Around};
 ghost use Rattle.traversal.specs.Traversal.{traversalResult, reachableResult};
 ghost use Rattle.traversal.specs.declared.Order.the-variants.{BreadthFirst, DepthFirst};
 ghost use Rattle.structural.specs.Components.{connectedResult, strongComponentsResult, connectedComponentsResult};
@@ -87,7 +87,7 @@ pub extern "C" fn vs_is_empty(t: &[u32]) -> Reply
 // The vertices that a step from the vertex leads to.
 #[no_mangle]
 pub extern "C" fn vs_get_adjacent_vertices_from(t: &[u32], v: VertexIndex, out: &mut [u32]) -> Reply
-    ensures { λ r. ⌜ replied r (now (out .exit)) ≡ onFormed (now (t .entry)) (now (out .entry)) (relatedResult From (v .0) (now (out .entry))) ⌝ }
+    ensures { λ r. ⌜ replied r (now (out .exit)) ≡ onFormed (now (t .entry)) (now (out .entry)) (relatedResult (Along From) (v .0) (now (out .entry))) ⌝ }
 {
     layout::reply_of(adjacent::get_adjacent_vertices_from(t, v, out))
 }
@@ -95,7 +95,7 @@ pub extern "C" fn vs_get_adjacent_vertices_from(t: &[u32], v: VertexIndex, out: 
 // The vertices from which a step leads to the vertex.
 #[no_mangle]
 pub extern "C" fn vs_get_adjacent_vertices_to(t: &[u32], v: VertexIndex, out: &mut [u32]) -> Reply
-    ensures { λ r. ⌜ replied r (now (out .exit)) ≡ onFormed (now (t .entry)) (now (out .entry)) (relatedResult To (v .0) (now (out .entry))) ⌝ }
+    ensures { λ r. ⌜ replied r (now (out .exit)) ≡ onFormed (now (t .entry)) (now (out .entry)) (relatedResult (Along To) (v .0) (now (out .entry))) ⌝ }
 {
     layout::reply_of(adjacent::get_adjacent_vertices_to(t, v, out))
 }
@@ -107,7 +107,7 @@ pub extern "C" fn vs_get_full_adjacent_vertices_from(
     v: VertexIndex,
     out: &mut [u32],
 ) -> Reply
-    ensures { λ r. ⌜ replied r (now (out .exit)) ≡ onFormed (now (t .entry)) (now (out .entry)) (fullAdjacentResult false (v .0) (now (out .entry))) ⌝ }
+    ensures { λ r. ⌜ replied r (now (out .exit)) ≡ onFormed (now (t .entry)) (now (out .entry)) (fullAdjacentResult From (v .0) (now (out .entry))) ⌝ }
 {
     layout::reply_of(full_adjacent::get_full_adjacent_vertices_from(t, v, out))
 }
@@ -119,7 +119,7 @@ pub extern "C" fn vs_get_full_adjacent_vertices_to(
     v: VertexIndex,
     out: &mut [u32],
 ) -> Reply
-    ensures { λ r. ⌜ replied r (now (out .exit)) ≡ onFormed (now (t .entry)) (now (out .entry)) (fullAdjacentResult true (v .0) (now (out .entry))) ⌝ }
+    ensures { λ r. ⌜ replied r (now (out .exit)) ≡ onFormed (now (t .entry)) (now (out .entry)) (fullAdjacentResult To (v .0) (now (out .entry))) ⌝ }
 {
     layout::reply_of(full_adjacent::get_full_adjacent_vertices_to(t, v, out))
 }
@@ -127,7 +127,7 @@ pub extern "C" fn vs_get_full_adjacent_vertices_to(
 // The places at which the vertex is stepped to.
 #[no_mangle]
 pub extern "C" fn vs_get_vertex_degree_in(t: &[u32], v: VertexIndex) -> Reply
-    ensures { λ r. ⌜ replied r [] ≡ onFormed (now (t .entry)) [] (degreeResult true (v .0)) ⌝ }
+    ensures { λ r. ⌜ replied r [] ≡ onFormed (now (t .entry)) [] (degreeResult To (v .0)) ⌝ }
 {
     layout::reply_of(degrees::get_vertex_degree_in(t, v))
 }
@@ -135,7 +135,7 @@ pub extern "C" fn vs_get_vertex_degree_in(t: &[u32], v: VertexIndex) -> Reply
 // The places at which the vertex is stepped from.
 #[no_mangle]
 pub extern "C" fn vs_get_vertex_degree_out(t: &[u32], v: VertexIndex) -> Reply
-    ensures { λ r. ⌜ replied r [] ≡ onFormed (now (t .entry)) [] (degreeResult false (v .0)) ⌝ }
+    ensures { λ r. ⌜ replied r [] ≡ onFormed (now (t .entry)) [] (degreeResult From (v .0)) ⌝ }
 {
     layout::reply_of(degrees::get_vertex_degree_out(t, v))
 }

@@ -3,7 +3,7 @@ ghost use mathlib.Core.Path.{_≡_};
 ghost use mathlib.Core.List.{[]};
 ghost use Prim.Native.Nat.{ℕ, _<_};
 ghost use Rattle.layout.specs.Layout.{limit, vertexCount, read};
-ghost use Rattle.layout.specs.WellFormed.{Formed};
+ghost use Rattle.layout.specs.Inner.{Formed};
 ghost use Rattle.layout.specs.Answers.{result, onFormed};
 ghost use Rattle.marks.specs.Marks.{isMarked};
 ghost use Rattle.lookups.specs.Lookups.{hasVertexWeighing};

@@ -18,11 +18,12 @@ use Rattle.layout.specs.declared.Found.{Found}
 use Rattle.layout.specs.declared.Found.the-variants.{At, Nothing}
 use Rattle.layout.specs.Content.{liveVertices, position}
 use Rattle.layout.specs.Layout.{limit, vertexLimit, vertexCount, hyperedgeCount, membersAt, read}
-use Rattle.layout.specs.WellFormed.{Formed}
+use Rattle.layout.specs.Inner.{Formed}
 use Rattle.layout.proofs.Position.{position-found, position-missing}
 use Rattle.layout.proofs.Read.{live-length, live-ascends}
 use Rattle.graph.proofs.Outside.{chosen-below}
-use Rattle.steps.specs.Matrices.{numberOf, cell}
+use Rattle.steps.specs.Matrices.{numberOf}
+use Rattle.steps.specs.Inner.{cell}
 use Rattle.walk.specs.Passes.{isFirst, Firsts, listsAt, listers, entering, Entering, Listers, listersOf}
 use Rattle.walk.proofs.Rows.{rows-none, rows-ext, rows-append}
 

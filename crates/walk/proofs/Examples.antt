@@ -1,4 +1,4 @@
--- Two walks of one step, computed: a draw of 2 to the 64th less 1, and one of 2 to the 64th less 1,025. Assumes nothing.
+-- Walks, computed: two of one step, by a draw of 2 to the 64th less 1 and by one of 2 to the 64th less 1,025, and one of three steps. Assumes nothing.
 use mathlib.Core.Path.{_≡_, refl}
 use mathlib.Core.List.{[], _∷_}
 use lib.Ieee.{span, climb, size, odd, units, round, mul, div, lt, ofInt}

@@ -13,9 +13,9 @@ use Rattle.lists.specs.Lists.{memb}
 use Rattle.lists.proofs.Cases.{on-below}
 use Rattle.lists.proofs.Memb.{memb-snoc-self, memb-snoc-other}
 use Rattle.layout.specs.Layout.{limit, vertexLimit, hyperedgeCount, membersAt}
-use Rattle.layout.specs.WellFormed.{Formed}
+use Rattle.layout.specs.Inner.{Formed}
 use Rattle.layout.proofs.Read.{members-le}
-use Rattle.steps.specs.Matrices.{cell}
+use Rattle.steps.specs.Inner.{cell}
 use Rattle.walk.specs.Passes.{isFirst, FirstsMarked, Firsts}
 
 -- ---- a loop over a list that looks for v: found says whether v is among the first i

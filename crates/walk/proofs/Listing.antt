@@ -16,7 +16,7 @@ use Rattle.lists.proofs.Tab.{tab-suc}
 use Rattle.lists.proofs.Filter.{filter-snoc}
 use Rattle.layout.specs.Content.{Hyperedge, lists, hyperedgesOf}
 use Rattle.layout.specs.Layout.{limit, hyperedgeLimit, hyperedgeCount, hyperedgeAt, read}
-use Rattle.layout.specs.WellFormed.{Formed}
+use Rattle.layout.specs.Inner.{Formed}
 use Rattle.steps.specs.Matrices.{numberOf}
 use Rattle.walk.specs.Walk.{float, sample, totalWeight, firstGreater}
 use Rattle.walk.specs.Passes.{largestWord, listsAt, listers, listersOf, recordsAt, Greater}

@@ -14,9 +14,9 @@ use Rattle.lists.proofs.Maps.{map-length, map-snoc}
 use Rattle.lists.proofs.Count.{count-le, count-in, count-out}
 use Rattle.lists.proofs.Chosen.{chosen-count, chosen-in, chosen-out}
 use Rattle.layout.specs.Layout.{limit, vertexLimit, hyperedgeCount, membersAt}
-use Rattle.layout.specs.WellFormed.{Formed}
+use Rattle.layout.specs.Inner.{Formed}
 use Rattle.layout.proofs.Read.{members-le}
-use Rattle.steps.specs.Matrices.{cell}
+use Rattle.steps.specs.Inner.{cell}
 use Rattle.lists.proofs.Cases.{not-none}
 use Rattle.lists.specs.Lists.{wordAt}
 use Rattle.walk.specs.Walk.{isFirstOther, otherMembers, walker, xorshift, toOneOf}

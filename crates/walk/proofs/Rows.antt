@@ -8,7 +8,7 @@ use lib.ListN.{length, getD, set, length-set, length-append, replicate, length-r
 use lib.Seq.{getD-set-same, getD-set-other, getD-take, take-append-seam, getD-at}
 use Rattle.lists.proofs.Cases.{on-same, on-below}
 use Rattle.layout.specs.Layout.{vertexLimit}
-use Rattle.steps.specs.Matrices.{cell}
+use Rattle.steps.specs.Inner.{cell}
 use Rattle.walk.specs.Passes.{Rows}
 
 pub rows-none : (n : ℕ) (R : ℕ → List ℕ) → n ≤ vertexLimit → ((i : ℕ) → R i ≡ []) → Rows n R (replicate (vertexLimit * vertexLimit) 0) (replicate vertexLimit 0)

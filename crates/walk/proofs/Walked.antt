@@ -17,7 +17,7 @@ use Rattle.layout.specs.declared.Found.the-variants.{At, Nothing}
 use Rattle.layout.specs.declared.Answer.the-variants.{Done, NoRoom}
 use Rattle.layout.specs.Content.{Hyperedge, Table, liveVertices, isLive, lists, hyperedgesOf, membersLive, valid, position}
 use Rattle.layout.specs.Layout.{limit, vertexCount, membersAt, hyperedgeAt, readHyperedges, read}
-use Rattle.layout.specs.WellFormed.{Formed}
+use Rattle.layout.specs.Inner.{Formed}
 use Rattle.layout.specs.Answers.{Result, result, vertexMissing, listed}
 use Rattle.layout.proofs.Position.{position-found, missing-dead}
 use Rattle.layout.proofs.Read.{vertex-found}

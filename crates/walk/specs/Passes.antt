@@ -9,7 +9,8 @@ use Rattle.lists.specs.Tests.{chosen}
 use Rattle.lists.specs.Lists.{memb}
 use Rattle.layout.specs.Content.{Hyperedge}
 use Rattle.layout.specs.Layout.{limit, vertexLimit, vertexCount, hyperedgeCount, membersAt, hyperedgeAt, read}
-use Rattle.steps.specs.Matrices.{numberOf, cell}
+use Rattle.steps.specs.Matrices.{numberOf}
+use Rattle.steps.specs.Inner.{cell}
 use Rattle.walk.specs.Walk.{sample, totalWeight, firstGreater}
 
 -- no weight is greater

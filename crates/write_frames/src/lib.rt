@@ -4,7 +4,7 @@ ghost use Prim.Native.Nat.{_+_, _*_, _<_, _≤_};
 ghost use lib.ListN.{length};
 ghost use Rattle.lists.specs.Lists.{tab, flat};
 ghost use Rattle.layout.specs.Layout.{limit, vertexLimit, size, hyperedgeCount, vertexAt, hyperedgeAt, read};
-ghost use Rattle.layout.specs.WellFormed.{Formed};
+ghost use Rattle.layout.specs.Inner.{Formed};
 ghost use Rattle.layout.specs.Answers.{result, onFormed};
 ghost use Rattle.layout.specs.Content.{vertexOf};
 ghost use Rattle.frames.specs.Frames.{byteValues, vertexLine, hyperedgeLine, frameText, vertexLength, hyperedgeLength, writeResult};

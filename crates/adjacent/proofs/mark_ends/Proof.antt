@@ -8,8 +8,8 @@ use lib.ListN.{length, drop}
 use Rattle.layout.specs.Content.{liveVertices}
 use Rattle.layout.specs.Layout.{limit, read}
 use Rattle.layout.specs.Steps.{stepsOf, isStep}
-use Rattle.lists.specs.Lists.{facing}
-use Rattle.lookups.specs.Lookups.{stepAt}
+use Rattle.lookups.specs.Lookups.{oriented}
+use Rattle.lookups.specs.State.{stepAt}
 use Rattle.lookups.proofs.Places.{steps-more, steps-end}
 use Rattle.lookups.proofs.Marking.{mark-one, Marking, marking-none, marking-more, marking-skip, marking-end, marked-as, step-yes, step-no}
 use borrow.Author.Needs.{needs}
@@ -17,10 +17,10 @@ use Rattle.adjacent.proofs.mark_ends.Statement.{statement}
 use Rattle.adjacent.proofs.mark_ends.Tie as tie
 
 abbrev Inv-loop : tie.InvT-loop
-Inv-loop t list v arriving marks₀ i₀ marks i = (i ≤ length list) × Marking (liveVertices (read limit t)) (facing arriving isStep v) (stepsOf list) (stepsOf (drop i list)) marks₀ marks
+Inv-loop t list v dir marks₀ i₀ marks i = (i ≤ length list) × Marking (liveVertices (read limit t)) (oriented dir isStep v) (stepsOf list) (stepsOf (drop i list)) marks₀ marks
 
 abbrev μ-loop : tie.MeasureT-loop
-μ-loop t list v arriving marks₀ i₀ marks i = length list - i
+μ-loop t list v dir marks₀ i₀ marks i = length list - i
 
 loop-holds : tie.Need-loop-holds Inv-loop μ-loop
 loop-holds c = (search needs, marking-none _ _ _ _)
@@ -28,11 +28,8 @@ loop-holds c = (search needs, marking-none _ _ _ _)
 add-loop : tie.Need-add-loop Inv-loop μ-loop
 add-loop c = search needs
 
-end-at-requires : tie.Need-end-at-requires Inv-loop μ-loop
-end-at-requires c κs = search needs
-
-end-at-requires-2 : tie.Need-end-at-requires-2 Inv-loop μ-loop
-end-at-requires-2 c κs = search needs
+ends-at-requires : tie.Need-ends-at-requires Inv-loop μ-loop
+ends-at-requires c κs = search needs
 
 mark-requires : tie.Need-mark-requires Inv-loop μ-loop
 mark-requires c κs = search needs
@@ -45,13 +42,13 @@ loop-less c = search needs
 
 loop-again : tie.Need-loop-again Inv-loop μ-loop
 loop-again c =
-    let l = c .before .before .before in let s = l .before .before .before in let h = c .before .before .loop-test .taken in
-    let e = c .before .end-at .ensures in let p = stepAt (now (s .args .list)) (l .loop .i) in (
+    let m = c .before .before in let l = m .before .before in let s = l .before .before .before in
+    let h = m .before .loop-test .taken in let e = m .ends-at .ensures in let p = stepAt (now (s .args .list)) (l .loop .i) in (
       omega arith,
       ⊎-elim
           (λ w. marking-more (l .loop .inv .1) (steps-more _ _ h)
-          (marked-as (step-yes _ p (s .args .arriving) e (w .0 .taken) (w .1 .ensures)) (mark-one limit (now (s .args .t)) _ (s .pre .0) (l .loop .inv .1 .sized ∙ s .pre .1) (w .4 ∙ w .3 .ensures))))
-          (λ w. marking-skip (l .loop .inv .1) (steps-more _ _ h) (step-no _ p (s .args .arriving) e (w .0 .left)) (w .1))
+          (marked-as (step-yes _ p (s .args .dir) e (w .0 .taken)) (mark-one limit (now (s .args .t)) _ (s .pre .0) (l .loop .inv .1 .sized ∙ s .pre .1) (w .3 ∙ w .2 .ensures))))
+          (λ w. marking-skip (l .loop .inv .1) (steps-more _ _ h) (step-no _ p (s .args .dir) e (w .0 .left)) (w .1))
           (c .if1 .came),
     )
 
@@ -66,8 +63,7 @@ mark-ends-spec =
     μ-loop
     loop-holds
     add-loop
-    end-at-requires
-    end-at-requires-2
+    ends-at-requires
     mark-requires
     add-i
     loop-less

@@ -1,5 +1,5 @@
 -- `adjacent::mark_record` meets its contract: each relation. Assumes nothing.
-use Rattle.lookups.proofs.Marking.{marked-from, marked-to, marked-around, marked-alone}
+use Rattle.lookups.proofs.Marking.{marked-along, marked-around, marked-alone}
 use borrow.Author.Needs.{needs}
 use Rattle.adjacent.proofs.mark_record.Statement.{statement}
 use Rattle.adjacent.proofs.mark_record.Tie as tie
@@ -7,20 +7,14 @@ use Rattle.adjacent.proofs.mark_record.Tie as tie
 members-formed-requires : tie.Need-members-formed-requires
 members-formed-requires c κs = search needs
 
-enum-told : tie.Need-enum-told
-enum-told c = search needs
+enum-known-rel : tie.Need-enum-known-rel
+enum-known-rel c = search needs
 
 mark-ends-requires : tie.Need-mark-ends-requires
 mark-ends-requires c κs = search needs
 
-enum-told-2 : tie.Need-enum-told-2
-enum-told-2 c = search needs
-
-mark-ends-requires-2 : tie.Need-mark-ends-requires-2
-mark-ends-requires-2 c κs = search needs
-
-enum-told-3 : tie.Need-enum-told-3
-enum-told-3 c = search needs
+enum-told : tie.Need-enum-told
+enum-told c = search needs
 
 holds-requires : tie.Need-holds-requires
 holds-requires c κs = search needs
@@ -29,30 +23,24 @@ mark-others-requires : tie.Need-mark-others-requires
 mark-others-requires c κs = search needs
 
 returns : tie.Need-returns
-returns c = search marked-from
+returns c = search marked-along
 
 returns-2 : tie.Need-returns-2
-returns-2 c = search marked-to
+returns-2 c = search marked-around
 
 returns-3 : tie.Need-returns-3
-returns-3 c = search marked-around
-
-returns-4 : tie.Need-returns-4
-returns-4 c = search marked-alone
+returns-3 c = search marked-alone
 
 pub mark-record-spec : {M : Type 1} → statement M
 mark-record-spec =
     tie.close
     (tie.spec
     members-formed-requires
-    enum-told
+    enum-known-rel
     mark-ends-requires
-    enum-told-2
-    mark-ends-requires-2
-    enum-told-3
+    enum-told
     holds-requires
     mark-others-requires
     returns
     returns-2
-    returns-3
-    returns-4)
+    returns-3)

@@ -1,5 +1,5 @@
 -- `choices::choose` meets its contract. Assumes nothing.
-use Rattle.steps.specs.Matrices.{cell}
+use Rattle.steps.specs.Inner.{cell}
 use Rattle.distance.proofs.Lists.{listed-room, listed-more, listed-kept}
 use Rattle.paths.proofs.Values.{choose-first, choose-lighter, choose-kept}
 use borrow.Author.Needs.{needs}

@@ -11,10 +11,10 @@ use Rattle.degrees.proofs.degree.Statement.{statement}
 use Rattle.degrees.proofs.degree.Tie as tie
 
 abbrev Inv-loop : tie.InvT-loop
-Inv-loop t v arriving m n₀ j₀ n j = (j ≤ m) × Summed (placesIn (hasEnd arriving v)) (hyperedgeAt limit t) (hyperedgeCount t) limit j n
+Inv-loop t v dir m n₀ j₀ n j = (j ≤ m) × Summed (placesIn (hasEnd dir v)) (hyperedgeAt limit t) (hyperedgeCount t) limit j n
 
 abbrev μ-loop : tie.MeasureT-loop
-μ-loop t v arriving m n₀ j₀ n j = m - j
+μ-loop t v dir m n₀ j₀ n j = m - j
 
 hyperedge-count-requires : tie.Need-hyperedge-count-requires Inv-loop μ-loop
 hyperedge-count-requires c κs = search needs

@@ -10,10 +10,10 @@ use Rattle.degrees.proofs.places_at.Statement.{statement}
 use Rattle.degrees.proofs.places_at.Tie as tie
 
 abbrev Inv-loop : tie.InvT-loop
-Inv-loop ms v arriving n₀ i₀ n i = (i ≤ length ms) × Counted (hasEnd arriving v) ms i n
+Inv-loop ms v dir n₀ i₀ n i = (i ≤ length ms) × Counted (hasEnd dir v) ms i n
 
 abbrev μ-loop : tie.MeasureT-loop
-μ-loop ms v arriving n₀ i₀ n i = length ms - i
+μ-loop ms v dir n₀ i₀ n i = length ms - i
 
 loop-holds : tie.Need-loop-holds Inv-loop μ-loop
 loop-holds c = (search needs, counted-none _ _)
@@ -21,8 +21,8 @@ loop-holds c = (search needs, counted-none _ _)
 add-loop : tie.Need-add-loop Inv-loop μ-loop
 add-loop c = search needs
 
-end-at-requires : tie.Need-end-at-requires Inv-loop μ-loop
-end-at-requires c κs = search needs
+ends-at-requires : tie.Need-ends-at-requires Inv-loop μ-loop
+ends-at-requires c κs = search needs
 
 add-n : tie.Need-add-n Inv-loop μ-loop
 add-n c = search needs
@@ -35,11 +35,11 @@ loop-less c = search needs
 
 loop-again : tie.Need-loop-again Inv-loop μ-loop
 loop-again c =
-    let k = c .before .before .before in let h = c .before .before .loop-test .taken in (
+    let m = c .before .before in let k = m .before .before in let h = m .before .loop-test .taken in (
       omega arith,
       ⊎-elim
-          (λ w. counted-yes (k .loop .inv .1) h (end-here _ _ _ _ (c .before .end-at .ensures) (w .0 .taken)) (w .1))
-          (λ w. counted-no (k .loop .inv .1) h (end-other _ _ _ _ (c .before .end-at .ensures) (w .0 .left)) (w .1))
+          (λ w. counted-yes (k .loop .inv .1) h (end-here _ _ _ _ (m .ends-at .ensures) (w .0 .taken)) (w .1))
+          (λ w. counted-no (k .loop .inv .1) h (end-other _ _ _ _ (m .ends-at .ensures) (w .0 .left)) (w .1))
           (c .if1 .came),
     )
 
@@ -54,7 +54,7 @@ places-at-spec =
     μ-loop
     loop-holds
     add-loop
-    end-at-requires
+    ends-at-requires
     add-n
     add-i
     loop-less

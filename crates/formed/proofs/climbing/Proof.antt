@@ -6,7 +6,7 @@ use lib.ListN.{length, drop}
 use Rattle.lists.proofs.Ascend.{climbs, climb-on, climb-no-low, climb-no-high, climb-yes}
 use Rattle.lists.proofs.Stride.{stride}
 use Rattle.layout.specs.Content.{numbered}
-use Rattle.layout.specs.WellFormed.{column}
+use Rattle.layout.specs.Inner.{column}
 use Rattle.formed.proofs.Judged.{climbs-numbered}
 use native.Mathlib.Omega.{arith}
 use borrow.Author.Needs.{needs}

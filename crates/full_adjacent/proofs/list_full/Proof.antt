@@ -21,7 +21,7 @@ write-heads-requires : tie.Need-write-heads-requires
 write-heads-requires c κs = (search needs, (search needs, (search needs, (search full-most, search full-room))))
 
 fill-requires : tie.Need-fill-requires
-fill-requires c κs = let w = c .before .before .before .before in let i = w .before .before .before in let p = i .before .before .before in let s = p .before .before .before .before in (search needs, full-ready (s .args .arriving) (s .args .v) (now (s .args .t)) (s .pre) _ (p .before .vertex-count .ensures) _ (p .tally-places .ensures) _ (i .before .words-needed .ensures) _ _ _ (i .if1 .left) (w .write-heads .ensures))
+fill-requires c κs = let w = c .before .before .before .before in let i = w .before .before .before in let p = i .before .before .before in let s = p .before .before .before .before in (search needs, full-ready (s .args .dir) (s .args .v) (now (s .args .t)) (s .pre) _ (p .before .vertex-count .ensures) _ (p .tally-places .ensures) _ (i .before .words-needed .ensures) _ _ _ (i .if1 .left) (w .write-heads .ensures))
 
 same-length : tie.Need-same-length
 same-length c = search needs

@@ -15,13 +15,13 @@ use Rattle.full_entries.proofs.fill.Statement.{statement}
 use Rattle.full_entries.proofs.fill.Tie as tie
 
 abbrev Inv-loop : tie.InvT-loop
-Inv-loop t v arriving nexts₀ out₀ m j₀ nexts out j =
+Inv-loop t v dir nexts₀ out₀ m j₀ nexts out j =
     (j ≤ m)
-    × (Filling (liveVertices (read limit t)) (connecting arriving (read limit t) v) (listingAhead arriving (read limit t) v j) nexts out
-    × Beyond (offset (liveVertices (read limit t)) (connecting arriving (read limit t) v) (length (liveVertices (read limit t)))) out₀ out)
+    × (Filling (liveVertices (read limit t)) (connecting dir (read limit t) v) (listingAhead dir (read limit t) v j) nexts out
+    × Beyond (offset (liveVertices (read limit t)) (connecting dir (read limit t) v) (length (liveVertices (read limit t)))) out₀ out)
 
 abbrev μ-loop : tie.MeasureT-loop
-μ-loop t v arriving nexts₀ out₀ m j₀ nexts out j = m - j
+μ-loop t v dir nexts₀ out₀ m j₀ nexts out j = m - j
 
 hyperedge-count-requires : tie.Need-hyperedge-count-requires Inv-loop μ-loop
 hyperedge-count-requires c κs = search needs
@@ -45,7 +45,7 @@ same-length : tie.Need-same-length Inv-loop μ-loop
 same-length c = c .before .loop .inv .1 .1 .same
 
 returns : tie.Need-returns Inv-loop μ-loop
-returns c = let s = c .before .before .before .before .before in (filling-as (c .before .loop .inv .1 .0) (ahead-end limit (now (s .args .t)) (s .args .v) (c .before .loop .j) (s .args .arriving) (omega arith)) refl refl, c .before .loop .inv .1 .1)
+returns c = let s = c .before .before .before .before .before in (filling-as (c .before .loop .inv .1 .0) (ahead-end limit (now (s .args .t)) (s .args .v) (c .before .loop .j) (s .args .dir) (omega arith)) refl refl, c .before .loop .inv .1 .1)
 
 pub fill-spec : {M : Type 1} → statement M
 fill-spec =

@@ -18,13 +18,13 @@ use Rattle.full_entries.proofs.fill_record.Statement.{statement}
 use Rattle.full_entries.proofs.fill_record.Tie as tie
 
 abbrev Inv-loop : tie.InvT-loop
-Inv-loop t j v arriving nexts₀ out₀ ms e i₀ nexts out i =
+Inv-loop t j v dir nexts₀ out₀ ms e i₀ nexts out i =
     (i ≤ length ms)
-    × (Filling (liveVertices (read limit t)) (connecting arriving (read limit t) v) (passing arriving v e ms i (listingAhead arriving (read limit t) v (j + 1))) nexts out
-    × Beyond (offset (liveVertices (read limit t)) (connecting arriving (read limit t) v) (length (liveVertices (read limit t)))) out₀ out)
+    × (Filling (liveVertices (read limit t)) (connecting dir (read limit t) v) (passing dir v e ms i (listingAhead dir (read limit t) v (j + 1))) nexts out
+    × Beyond (offset (liveVertices (read limit t)) (connecting dir (read limit t) v) (length (liveVertices (read limit t)))) out₀ out)
 
 abbrev μ-loop : tie.MeasureT-loop
-μ-loop t j v arriving nexts₀ out₀ ms e i₀ nexts out i = length ms - i
+μ-loop t j v dir nexts₀ out₀ ms e i₀ nexts out i = length ms - i
 
 members-formed-requires : tie.Need-members-formed-requires Inv-loop μ-loop
 members-formed-requires c κs = search needs
@@ -33,26 +33,23 @@ hyperedge-number-requires : tie.Need-hyperedge-number-requires Inv-loop μ-loop
 hyperedge-number-requires c κs = search needs
 
 loop-holds : tie.Need-loop-holds Inv-loop μ-loop
-loop-holds c = let s = c .before .before .before .before in (search needs, (filling-as (s .pre .1 .1) (passing-first limit (now (s .args .t)) _ _ (s .args .arriving) _ _ (s .pre .1 .0) (c .before .members-formed .ensures) (c .hyperedge-number .ensures)) refl refl, beyond-same _ _))
+loop-holds c = let s = c .before .before .before .before in (search needs, (filling-as (s .pre .1 .1) (passing-first limit (now (s .args .t)) _ _ (s .args .dir) _ _ (s .pre .1 .0) (c .before .members-formed .ensures) (c .hyperedge-number .ensures)) refl refl, beyond-same _ _))
 
 add-loop : tie.Need-add-loop Inv-loop μ-loop
 add-loop c = search needs
 
-end-at-requires : tie.Need-end-at-requires Inv-loop μ-loop
-end-at-requires c κs = search needs
-
-end-at-requires-2 : tie.Need-end-at-requires-2 Inv-loop μ-loop
-end-at-requires-2 c κs = search needs
+ends-at-requires : tie.Need-ends-at-requires Inv-loop μ-loop
+ends-at-requires c κs = search needs
 
 put-requires : tie.Need-put-requires Inv-loop μ-loop
 put-requires c κs =
-    let l = c .before .before .before .before .before .before in let s = l .before .before .before .before .before in let f = s .pre .0 in (
+    let m = c .before .before .before .before in let l = m .before .before in let s = l .before .before .before .before .before in let f = s .pre .0 in (
       search needs,
       filling-room (l .loop .inv .1 .0) _ (l .before .hyperedge-number .result)
-          (passing (s .args .arriving) (s .args .v) (l .before .hyperedge-number .result) (now (l .before .before .members-formed .result)) (l .loop .i + 1)
-          (listingAhead (s .args .arriving) (read limit (now (s .args .t))) (s .args .v) (s .args .j + 1)))
+          (passing (s .args .dir) (s .args .v) (l .before .hyperedge-number .result) (now (l .before .before .members-formed .result)) (l .loop .i + 1)
+          (listingAhead (s .args .dir) (read limit (now (s .args .t))) (s .args .v) (s .args .j + 1)))
           (live-ascends limit (now (s .args .t)) f) (live-fit limit (now (s .args .t)) f)
-          (passing-yes (s .args .arriving) _ _ _ _ _ _ _ (c .before .before .before .before .before .loop-test .taken) (c .before .before .before .before .end-at .ensures) (c .before .before .before .if1 .taken) (c .before .before .end-at2 .ensures)),
+          (passing-yes (s .args .dir) _ _ _ _ _ _ (m .before .loop-test .taken) (m .ends-at .ensures) (c .before .before .if1 .taken)),
     )
 
 add-i : tie.Need-add-i Inv-loop μ-loop
@@ -63,13 +60,13 @@ loop-less c = search needs
 
 loop-again : tie.Need-loop-again Inv-loop μ-loop
 loop-again c =
-    let l = c .before .before .before in let s = l .before .before .before .before .before in let h = c .before .before .loop-test .taken in
-    let e = c .before .end-at .ensures in let f = s .pre .0 in (
+    let m = c .before .before in let l = m .before .before in let s = l .before .before .before .before .before in
+    let h = m .before .loop-test .taken in let e = m .ends-at .ensures in let f = s .pre .0 in (
       omega arith,
       ⊎-elim
           (λ w. fill-yes (l .loop .inv .1 .0) (l .loop .inv .1 .1) _ _ (live-ascends limit (now (s .args .t)) f) (live-fit limit (now (s .args .t)) f)
-          (passing-yes (s .args .arriving) _ _ _ _ _ _ _ h e (w .0 .taken) (w .1 .ensures)) (w .7 ∙ w .4 .ensures .0) (w .8 ∙ w .4 .ensures .1))
-          (λ w. fill-no (l .loop .inv .1 .0) (l .loop .inv .1 .1) (passing-no (s .args .arriving) _ _ _ _ _ _ h e (w .0 .left)) (w .1) (w .2))
+          (passing-yes (s .args .dir) _ _ _ _ _ _ h e (w .0 .taken)) (w .6 ∙ w .3 .ensures .0) (w .7 ∙ w .3 .ensures .1))
+          (λ w. fill-no (l .loop .inv .1 .0) (l .loop .inv .1 .1) (passing-no (s .args .dir) _ _ _ _ _ _ h e (w .0 .left)) (w .1) (w .2))
           (c .if1 .came),
     )
 
@@ -89,8 +86,7 @@ fill-record-spec =
     hyperedge-number-requires
     loop-holds
     add-loop
-    end-at-requires
-    end-at-requires-2
+    ends-at-requires
     put-requires
     add-i
     loop-less

@@ -4,7 +4,8 @@ use Prim.Native.Nat.{suc, _≤_, _-_}
 use native.Mathlib.Omega.{arith}
 use denote.Ref.{now}
 use Rattle.layout.specs.Layout.{limit, hyperedgeCount, hyperedgeAt}
-use Rattle.lookups.specs.Lookups.{blockLength, listing}
+use Rattle.lookups.specs.Lookups.{listing}
+use Rattle.lookups.specs.State.{blockLength}
 use Rattle.lookups.proofs.Places.{Summed, summed-none, summed-more, summed-end}
 use Rattle.lookups.proofs.Laid.{block-most, blocks-length}
 use borrow.Author.Needs.{needs}

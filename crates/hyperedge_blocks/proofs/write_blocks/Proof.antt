@@ -4,7 +4,8 @@ use native.Mathlib.Omega.{arith}
 use denote.Ref.{now}
 use lib.ListN.{length}
 use Rattle.layout.specs.Layout.{limit, hyperedgeCount, hyperedgeAt}
-use Rattle.lookups.specs.Lookups.{block, blockLength, listing}
+use Rattle.lookups.specs.Lookups.{block, listing}
+use Rattle.lookups.specs.State.{blockLength}
 use Rattle.lookups.proofs.Laid.{Laid, laid-none, laid-room, laid-fits, laid-more, laid-end}
 use borrow.Author.Needs.{needs}
 use Rattle.hyperedge_blocks.proofs.write_blocks.Statement.{statement}

@@ -4,8 +4,8 @@ use Prim.Native.Nat.{_*_, _-_, _≤_}
 use denote.Ref.{now}
 use lib.ListN.{length, take}
 use Rattle.lists.specs.Lists.{flat}
-use Rattle.frames.specs.Frames.{numberDigits, memberLength}
-use Rattle.frames.specs.Put.{Put}
+use Rattle.frames.specs.Frames.{memberLength}
+use Rattle.frames.specs.Put.{numberDigits, Put}
 use Rattle.frames.proofs.Lines.{members-none, members-more, members-end}
 use borrow.Author.Needs.{needs}
 use Rattle.hyperedge_frames.proofs.put_members.Statement.{statement}

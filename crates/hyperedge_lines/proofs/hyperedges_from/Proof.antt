@@ -38,15 +38,6 @@ number-at-requires c κs = (search needs, read-room (c .before .before .before .
 add-low : tie.Need-add-low Inv-loop μ-loop
 add-low c = search needs
 
-mul-at : tie.Need-mul-at Inv-loop μ-loop
-mul-at c = search needs
-
-add-at : tie.Need-add-at Inv-loop μ-loop
-add-at c = search needs
-
-add-at-2 : tie.Need-add-at-2 Inv-loop μ-loop
-add-at-2 c = search needs
-
 add-to : tie.Need-add-to Inv-loop μ-loop
 add-to c = search needs
 
@@ -80,9 +71,6 @@ hyperedges-from-spec =
     add-number-at
     number-at-requires
     add-low
-    mul-at
-    add-at
-    add-at-2
     add-to
     add-i
     loop-less

@@ -4,7 +4,7 @@ use Prim.Native.Nat.{_-_, _≤_}
 use lib.ListN.{length, drop}
 use Rattle.lists.specs.Lists.{all}
 use Rattle.layout.specs.Content.{isLive}
-use Rattle.layout.specs.WellFormed.{vertexColumn}
+use Rattle.layout.specs.Inner.{vertexColumn}
 use Rattle.reader.proofs.Live.{list-on, list-no, list-end}
 use borrow.Author.Needs.{needs}
 use Rattle.hyperedge_lines.proofs.list_live.Statement.{statement}

@@ -42,7 +42,7 @@ put-hyperedge-requires : tie.Need-put-hyperedge-requires
 put-hyperedge-requires c κs =
     let start = c .before .before .before .before .before .before .before .before .before .before .before .before .before in
     let framed = start .pre .1 .1 .0 in
-    (start .pre .0, ((framed .0, (framed .1 .0, framed .1 .1 .1)), (start .pre .1 .1 .1 .0, start .pre .1 .1 .1 .1)))
+    (start .pre .0, ((framed .0, (framed .1 .0, framed .1 .1 .1)), (start .pre .1 .1 .1 .0, start .pre .1 .1 .1 .1 .0)))
 
 same-length-2 : tie.Need-same-length-2
 same-length-2 c = search needs

@@ -1,5 +1,5 @@
 -- `hyperedge_lines::read_hyperedge` meets its contract. Assumes nothing.
-use Rattle.reader.proofs.HyperedgeLine.{fits-short, fits-empty, fits-many, fits-unsealed, fits-seal}
+use Rattle.reader.proofs.HyperedgeLine.{frame-behind, fits-short, fits-empty, fits-many, fits-unsealed, fits-seal}
 use Rattle.reader.proofs.HyperedgeLines.{line-unfit}
 use Rattle.reader.proofs.Words.{list-made}
 use borrow.Author.Needs.{needs}
@@ -24,14 +24,14 @@ returns-2 c = line-unfit _ _ _ _ _ _ (search fits-empty)
 returns-3 : tie.Need-returns-3
 returns-3 c = line-unfit _ _ _ _ _ _ (search fits-many)
 
-mul-is-frame : tie.Need-mul-is-frame
-mul-is-frame c = search needs
+mul-frame-end : tie.Need-mul-frame-end
+mul-frame-end c = search needs
 
-add-is-frame : tie.Need-add-is-frame
-add-is-frame c = search needs
+add-frame-end : tie.Need-add-frame-end
+add-frame-end c = search needs
 
-is-frame-requires : tie.Need-is-frame-requires
-is-frame-requires c κs = search needs
+frame-end-requires : tie.Need-frame-end-requires
+frame-end-requires c κs = search needs
 
 returns-4 : tie.Need-returns-4
 returns-4 c = line-unfit _ _ _ _ _ _ (search fits-unsealed)
@@ -43,7 +43,7 @@ put-members-requires : tie.Need-put-members-requires
 put-members-requires c κs =
     let tested = c .before in
     let counted = tested .before .before in
-    let sealed = fits-seal _ _ _ _ (tested .before .is-frame .ensures) (tested .if4 .left) (counted .before .before .byte-at .ensures .0) (counted .before .if2 .left) (counted .if3 .left) in
+    let sealed = fits-seal _ _ _ _ (tested .before .frame-end .ensures) (tested .if4 .left) (counted .before .before .byte-at .ensures .0) (counted .before .if2 .left) (counted .if3 .left) in
     (search needs, (sealed .0, search needs))
 
 slice-aggregate-put-fitting : tie.Need-slice-aggregate-put-fitting
@@ -54,8 +54,9 @@ put-fitting-requires c κs =
     let tested = c .before .before .before .before .before in
     let counted = tested .before .before in
     let start = counted .before .before .before .before .before .before in
-    let sealed = fits-seal _ _ _ _ (tested .before .is-frame .ensures) (tested .if4 .left) (counted .before .before .byte-at .ensures .0) (counted .before .if2 .left) (counted .if3 .left) in
-    (start .pre .0, (start .pre .1 .0, (sealed, (list-made (counted .if3 .left) (c .before .before .before .put-members .ensures), start .pre .1 .1 .1))))
+    let sealed = fits-seal _ _ _ _ (tested .before .frame-end .ensures) (tested .if4 .left) (counted .before .before .byte-at .ensures .0) (counted .before .if2 .left) (counted .if3 .left) in
+    let listed = list-made (counted .if3 .left) (c .before .before .before .put-members .ensures) in
+    (start .pre .0, (start .pre .1 .0, (sealed, (listed, (start .pre .1 .1 .1, frame-behind _ _ _ _ (tested .before .frame-end .ensures) (tested .if4 .left))))))
 
 same-length : tie.Need-same-length
 same-length c = search needs
@@ -73,9 +74,9 @@ read-hyperedge-spec =
     byte-at-requires
     returns-2
     returns-3
-    mul-is-frame
-    add-is-frame
-    is-frame-requires
+    mul-frame-end
+    add-frame-end
+    frame-end-requires
     returns-4
     slice-aggregate-put-members
     put-members-requires

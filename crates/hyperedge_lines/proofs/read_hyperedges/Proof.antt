@@ -1,5 +1,5 @@
 -- `hyperedge_lines::read_hyperedges` meets its contract. Assumes nothing.
-use Rattle.reader.proofs.HyperedgeLines.{stored-place, stored-due, stored-next, stored-few, stored-given}
+use Rattle.reader.proofs.HyperedgeLines.{stored-due, stored-next, stored-few, stored-given}
 use borrow.Author.Needs.{needs}
 use Rattle.hyperedge_lines.proofs.read_hyperedges.Statement.{statement}
 use Rattle.hyperedge_lines.proofs.read_hyperedges.Tie as tie
@@ -13,18 +13,9 @@ next-hyperedge-requires c κs = search needs
 wide-word-requires : tie.Need-wide-word-requires
 wide-word-requires c κs = search needs
 
-vertex-count-requires : tie.Need-vertex-count-requires
-vertex-count-requires c κs = search needs
-
-mul-place : tie.Need-mul-place
-mul-place c = search needs
-
-add-place : tie.Need-add-place
-add-place c = search needs
-
 hyperedges-from-requires : tie.Need-hyperedges-from-requires
 hyperedges-from-requires c κs =
-    (search needs, (search needs, (search stored-place, ((search stored-due, search stored-next), (search stored-few, search stored-given)))))
+    (search needs, (search needs, (search needs, ((search stored-due, search stored-next), (search stored-few, search stored-given)))))
 
 same-length : tie.Need-same-length
 same-length c = search needs
@@ -39,9 +30,6 @@ read-hyperedges-spec =
     hyperedge-count-requires
     next-hyperedge-requires
     wide-word-requires
-    vertex-count-requires
-    mul-place
-    add-place
     hyperedges-from-requires
     same-length
     returns)

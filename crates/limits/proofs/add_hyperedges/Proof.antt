@@ -15,6 +15,9 @@ abbrev μ-loop : tie.MeasureT-loop
 loop-holds : tie.Need-loop-holds Inv-loop μ-loop
 loop-holds c = search needs
 
+cast-loop : tie.Need-cast-loop Inv-loop μ-loop
+cast-loop c = search needs
+
 slice-aggregate-add-hyperedge : tie.Need-slice-aggregate-add-hyperedge Inv-loop μ-loop
 slice-aggregate-add-hyperedge c = search needs
 
@@ -43,6 +46,7 @@ add-hyperedges-spec =
     Inv-loop
     μ-loop
     loop-holds
+    cast-loop
     slice-aggregate-add-hyperedge
     add-hyperedge-requires
     add-j

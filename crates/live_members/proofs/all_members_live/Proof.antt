@@ -5,7 +5,7 @@ use Prim.Native.Nat.{_≤_, _-_}
 use Rattle.lists.specs.Tests.{every}
 use Rattle.lists.proofs.Every.{every-on, every-no, every-end}
 use Rattle.layout.specs.Layout.{limit, verticesAt, vertexSize}
-use Rattle.layout.specs.WellFormed.{column}
+use Rattle.layout.specs.Inner.{column}
 use Rattle.layout.proofs.Shape.{count-le}
 use Rattle.formed.specs.Records.{recordLive}
 use borrow.Author.Needs.{needs}

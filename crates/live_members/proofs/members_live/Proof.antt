@@ -6,7 +6,7 @@ use Rattle.lists.specs.Lists.{all}
 use Rattle.lists.proofs.All.{all-on, all-no, all-end}
 use Rattle.layout.specs.Content.{isLive}
 use Rattle.layout.specs.Layout.{limit, vertexLimit, verticesAt, vertexSize}
-use Rattle.layout.specs.WellFormed.{column}
+use Rattle.layout.specs.Inner.{column}
 use Rattle.formed.specs.Records.{recordLive}
 use Rattle.formed.proofs.Judged.{members-are, members-few}
 use borrow.Author.Needs.{needs}

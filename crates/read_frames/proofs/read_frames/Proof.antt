@@ -1,4 +1,5 @@
 -- `read_frames::read_frames` meets its contract. Assumes nothing.
+use Rattle.layout.specs.Layout.{limit, size}
 use Rattle.reader.proofs.Made.{blank-is}
 use Rattle.reader.proofs.Texts.{answer-unsized, answer-read}
 use borrow.Author.Needs.{needs}
@@ -12,7 +13,7 @@ slice-aggregate-read-text : tie.Need-slice-aggregate-read-text
 slice-aggregate-read-text c = search needs
 
 read-text-requires : tie.Need-read-text-requires
-read-text-requires c κs = blank-is 7236
+read-text-requires c κs = blank-is (size limit)
 
 slice-aggregate-store-read : tie.Need-slice-aggregate-store-read
 slice-aggregate-store-read c = search needs

@@ -1,6 +1,6 @@
 -- `read_frames::read_records` meets its contract. Assumes nothing.
 use Rattle.reader.proofs.VertexLines.{stored-due}
-use Rattle.reader.proofs.Texts.{text-vertex-bad, text-vertices-stored, text-vertices-made}
+use Rattle.reader.proofs.Texts.{text-vertex-bad, text-vertices-place, text-vertices-stored, text-vertices-made}
 use borrow.Author.Needs.{needs}
 use Rattle.read_frames.proofs.read_records.Statement.{statement}
 use Rattle.read_frames.proofs.read_records.Tie as tie
@@ -21,7 +21,8 @@ returns : tie.Need-returns
 returns c = search text-vertex-bad
 
 read-rest-requires : tie.Need-read-rest-requires
-read-rest-requires c κs = (search needs, (search text-vertices-stored, (search text-vertices-made, search stored-due)))
+read-rest-requires c κs =
+    (search needs, (search text-vertices-stored, ((search text-vertices-made, search stored-due), search text-vertices-place)))
 
 same-length-2 : tie.Need-same-length-2
 same-length-2 c = search needs

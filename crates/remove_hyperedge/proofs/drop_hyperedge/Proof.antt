@@ -4,7 +4,7 @@ use mathlib.Core.List.{List, _++_}
 use Prim.Native.Nat.{ℕ, _*_, _-_}
 use lib.ListN.{take, set}
 use denote.Ref.{now}
-use Rattle.lists.specs.Lists.{shifted}
+use Rattle.lists.specs.Inner.{shifted}
 use Rattle.lists.proofs.Parts.{part-tail, back-tail}
 use Rattle.layout.specs.Layout.{limit, recordSize, hyperedgesAt}
 use borrow.Author.Needs.{needs}

@@ -1,6 +1,7 @@
 -- `sort_sheet::sort_text` meets its contract. Assumes nothing.
 use Prim.Native.Nat.{ℕ}
 use lib.ListN.{length-replicate}
+use Rattle.layout.specs.Layout.{limit, size}
 use borrow.Author.Needs.{needs}
 use Rattle.sort_sheet.proofs.sort_text.Statement.{statement}
 use Rattle.sort_sheet.proofs.sort_text.Tie as tie
@@ -9,7 +10,7 @@ slice-aggregate-sort-through : tie.Need-slice-aggregate-sort-through
 slice-aggregate-sort-through c = search needs
 
 sort-through-requires : tie.Need-sort-through-requires
-sort-through-requires c κs = length-replicate {A = ℕ} 7236 0
+sort-through-requires c κs = length-replicate {A = ℕ} (size limit) 0
 
 same-length : tie.Need-same-length
 same-length c = search needs

@@ -1,5 +1,5 @@
 -- `vertex_lines::read_vertices` meets its contract. Assumes nothing.
-use Rattle.reader.proofs.VertexLines.{stored-due, stored-few, stored-given, stored-next, stored-room}
+use Rattle.reader.proofs.VertexLines.{stored-due, stored-few, stored-given, stored-next, stored-within}
 use borrow.Author.Needs.{needs}
 use Rattle.vertex_lines.proofs.read_vertices.Statement.{statement}
 use Rattle.vertex_lines.proofs.read_vertices.Tie as tie
@@ -14,7 +14,8 @@ wide-word-requires : tie.Need-wide-word-requires
 wide-word-requires c κs = search needs
 
 vertices-from-requires : tie.Need-vertices-from-requires
-vertices-from-requires c κs = (search needs, ((search stored-due, search stored-next), ((search stored-given, search stored-few), (search needs, search stored-room))))
+vertices-from-requires c κs =
+    (search needs, ((search needs, search stored-within), ((search stored-due, search stored-next), ((search stored-given, search stored-few), search needs))))
 
 same-length : tie.Need-same-length
 same-length c = search needs

@@ -7,22 +7,22 @@ use Rattle.vertex_lines.proofs.vertices_from.Statement.{statement}
 use Rattle.vertex_lines.proofs.vertices_from.Tie as tie
 
 abbrev Inv-loop : tie.InvT-loop
-Inv-loop words₀ values text n next low₀ at₀ to₀ i₀ words low at to i = VerticesSo text words₀ words low at to i
+Inv-loop words₀ values text place n next at₀ low₀ to₀ i₀ words at low to i = VerticesSo text words₀ words low at to i
 
 abbrev μ-loop : tie.MeasureT-loop
-μ-loop words₀ values text n next low₀ at₀ to₀ i₀ words low at to i = n - i
+μ-loop words₀ values text place n next at₀ low₀ to₀ i₀ words at low to i = n - i
 
 loop-holds : tie.Need-loop-holds Inv-loop μ-loop
 loop-holds c = search vertices-none
 
-sub-vertex-fits : tie.Need-sub-vertex-fits Inv-loop μ-loop
-sub-vertex-fits c = search needs
+sub-vertex-end : tie.Need-sub-vertex-end Inv-loop μ-loop
+sub-vertex-end c = search needs
 
-sub-vertex-fits-2 : tie.Need-sub-vertex-fits-2 Inv-loop μ-loop
-sub-vertex-fits-2 c = search needs
+sub-vertex-end-2 : tie.Need-sub-vertex-end-2 Inv-loop μ-loop
+sub-vertex-end-2 c = search needs
 
-vertex-fits-requires : tie.Need-vertex-fits-requires Inv-loop μ-loop
-vertex-fits-requires c κs = search needs
+vertex-end-requires : tie.Need-vertex-end-requires Inv-loop μ-loop
+vertex-end-requires c κs = search needs
 
 same-length : tie.Need-same-length Inv-loop μ-loop
 same-length c = search needs
@@ -42,9 +42,6 @@ add-low c = search needs
 put-vertex-requires : tie.Need-put-vertex-requires Inv-loop μ-loop
 put-vertex-requires c κs = (search needs, (search vertex-framed, search needs))
 
-add-at : tie.Need-add-at Inv-loop μ-loop
-add-at c = search needs
-
 add-i : tie.Need-add-i Inv-loop μ-loop
 add-i c = search needs
 
@@ -52,9 +49,7 @@ loop-less : tie.Need-loop-less Inv-loop μ-loop
 loop-less c = search needs
 
 loop-again : tie.Need-loop-again Inv-loop μ-loop
-loop-again c =
-    vertices-more _ _ _ (search needs) (search needs) (search needs) (c .before .before .before .before .before .before .before .before .loop .inv) _ (c .before .before .before .before .before .before .vertex-fits .ensures) (c .before .before .before .before .before .if1 .left) (c .before .before .before .before .before .before .before .loop-test .taken)
-    (c .before .before .before .before .number-at .ensures .0) (c .before .before .put-vertex .ensures)
+loop-again c = search vertices-more
 
 same-length-2 : tie.Need-same-length-2 Inv-loop μ-loop
 same-length-2 c = search needs
@@ -69,16 +64,15 @@ vertices-from-spec =
     Inv-loop
     μ-loop
     loop-holds
-    sub-vertex-fits
-    sub-vertex-fits-2
-    vertex-fits-requires
+    sub-vertex-end
+    sub-vertex-end-2
+    vertex-end-requires
     same-length
     returns
     add-number-at
     number-at-requires
     add-low
     put-vertex-requires
-    add-at
     add-i
     loop-less
     loop-again

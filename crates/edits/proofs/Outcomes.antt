@@ -1,0 +1,96 @@
+-- The ways that an addition or an update of a well-formed table can go: refused, with the words as they were, or done. Assumes nothing.
+use mathlib.Core.Path.{_≡_, refl}
+use mathlib.Core.Bool.{true, false}
+use mathlib.Core.List.{List, [], _∷_}
+use Prim.Native.Nat.{ℕ, _≤_, _<_}
+use lib.Dec.{eqb, ltb, leb}
+use lib.ListN.{length}
+use borrow.Author.Tests.{ltb-true, leb-true}
+use Rattle.lists.specs.Lists.{all, any, sameList}
+use Rattle.lists.proofs.Cases.{on, and-both, or-right}
+use Rattle.layout.specs.declared.Answer.{Answer}
+use Rattle.layout.specs.declared.Answer.the-variants.{Done, NoMembers, SameMembers, TooManyMembers, Full, NumbersSpent}
+use Rattle.layout.specs.Content.{Hyperedge, Table, isLive}
+use Rattle.layout.specs.Layout.{limit, vertexLimit, hyperedgeLimit, read, words}
+use Rattle.layout.specs.WellFormed.{wellFormed, holdable}
+use Rattle.layout.specs.Answers.{number, Result, result, onFormed, onLive}
+use Rattle.layout.proofs.Back.{read-holdable}
+use Rattle.edits.specs.Edits.{addVertex, addHyperedge, updateHyperedge}
+use Rattle.edits.specs.Results.{lastNumber, onSome, onShort, onRoom, onNumber, identical, onNew, onChanged, membersOf, addVertexResult, addHyperedgeResult, updateResult}
+use Rattle.edits.proofs.AddHoldable.{add-vertex-holdable, add-hyperedge-holdable, update-holdable}
+
+-- what holds of every refusal, and of r where the refusal does not apply; f is what is known there
+module _ (P : Result → Type 0) (ws : List ℕ) (refused : (a : Answer) → eqb (number a) 0 ≡ false → P (result a ws)) (r : Result) where
+  some-or : (ms : List ℕ) (d : ℕ) → (0 < length ms → P r) → P (onSome ms d ws r)
+  unfolding onSome
+  some-or ms d f = on (ltb 0 (length ms)) (λ e. rw e (f (ltb-true _ _ e))) (λ e. rw e (refused (NoMembers d) refl))
+
+  short-or : (ms : List ℕ) → (length ms ≤ limit → P r) → P (onShort ms ws r)
+  unfolding onShort
+  short-or ms f = on (leb (length ms) limit) (λ e. rw e (f (leb-true _ _ e))) (λ e. rw e (refused (TooManyMembers (length ms)) refl))
+
+  live-or : (live : List ℕ) (refusal : ℕ → Answer) → ((x : ℕ) → eqb (number (refusal x)) 0 ≡ false) → (xs : List ℕ) → (all (isLive live) xs ≡ true → P r) → P (onLive live refusal xs ws r)
+  unfolding onLive all
+  live-or live refusal n [] f = f refl
+  live-or live refusal n (x ∷ xs) f =
+      on (isLive live x) (λ e. rw e (live-or live refusal n xs (λ a. f (and-both _ _ e a)))) (λ e. rw e (refused (refusal x) (n x)))
+
+  changed-or : (x : ℕ) (ms : List ℕ) (t : Table) → P r → P (onChanged x ms t ws r)
+  unfolding onChanged
+  changed-or x ms t p = on (sameList ms (membersOf x (t .hyperedges))) (λ q. rw q (refused (SameMembers (record { 0 = x })) refl)) (λ q. rw q p)
+
+  room-or : (live most : ℕ) → (live < most → P r) → P (onRoom live most ws r)
+  unfolding onRoom
+  room-or live most f = on (ltb live most) (λ e. rw e (f (ltb-true _ _ e))) (λ e. rw e (refused Full refl))
+
+  number-or : (next : ℕ) → P r → P (onNumber next ws r)
+  unfolding onNumber
+  number-or next p = on (eqb next lastNumber) (λ e. rw e (refused NumbersSpent refl)) (λ e. rw e p)
+
+-- an identical hyperedge answers its number, and the words are as they were
+new-or : (P : Result → Type 0) (ws : List ℕ) (r : Result) (ms : List ℕ) (w : ℕ) (es : List Hyperedge)
+    → (any (identical ms w) es ≡ true → (x : ℕ) → P (result (Done x) ws)) → (any (identical ms w) es ≡ false → P r) → P (onNew ms w es ws r)
+unfolding onNew any
+new-or P ws r ms w [] found f = f refl
+new-or P ws r ms w (e ∷ es) found f =
+    on (identical ms w e)
+    (λ q. rw q (found (rw q) (e .number)))
+    (λ q. rw q (new-or P ws r ms w es (λ h. found (or-right (identical ms w e) (any (identical ms w) es) h)) (λ h. f (rw (q, h)))))
+
+-- ---- the calls: P holds of every refusal, and of what is done
+
+module _ (P : Result → Type 0) (ws : List ℕ) (formed : wellFormed limit ws ≡ true) (refused : (a : Answer) → eqb (number a) 0 ≡ false → P (result a ws)) where
+  held : holdable limit (read limit ws) ≡ true
+  held = read-holdable limit ws formed
+
+  formed-or : (f : Table → Result) → P (f (read limit ws)) → P (onFormed ws ws f)
+  unfolding onFormed
+  formed-or f p = rw formed p
+
+  pub add-vertex-goes : (w : ℕ)
+      → (holdable limit (addVertex w (read limit ws)) ≡ true → P (result (Done (read limit ws .nextVertex)) (words limit (addVertex w (read limit ws)))))
+      → P (onFormed ws ws (addVertexResult w ws))
+  unfolding addVertexResult
+  add-vertex-goes w done =
+      formed-or (addVertexResult w ws) (room-or P ws refused _ _ vertexLimit (λ room. number-or P ws refused _ _
+      (done (add-vertex-holdable limit w (read limit ws) held room))))
+
+  pub add-hyperedge-goes : (ms : List ℕ) (w : ℕ)
+      → (any (identical ms w) (read limit ws .hyperedges) ≡ true → (x : ℕ) → P (result (Done x) ws))
+      → (any (identical ms w) (read limit ws .hyperedges) ≡ false → holdable limit (addHyperedge ms w (read limit ws)) ≡ true
+      → P (result (Done (read limit ws .nextHyperedge)) (words limit (addHyperedge ms w (read limit ws)))))
+      → P (onFormed ws ws (addHyperedgeResult ms w ws))
+  unfolding addHyperedgeResult
+  add-hyperedge-goes ms w found done =
+      formed-or (addHyperedgeResult ms w ws) (some-or P ws refused _ ms w (λ pos. short-or P ws refused _ ms (λ le. live-or P ws refused _ _ _ (λ x. refl) ms (λ live.
+      new-or P ws _ ms w _ found (λ new. room-or P ws refused _ _ hyperedgeLimit (λ room. number-or P ws refused _ _
+      (done new (add-hyperedge-holdable limit ms (read limit ws) held pos le live w room))))))))
+
+  pub update-goes : (x : ℕ) (ms : List ℕ)
+      → (holdable limit (updateHyperedge x ms (read limit ws)) ≡ true → P (result (Done 0) (words limit (updateHyperedge x ms (read limit ws)))))
+      → P (onFormed ws ws (updateResult x ms ws))
+  unfolding updateResult
+  update-goes x ms done =
+      formed-or (updateResult x ms ws) (some-or P ws refused _ ms x (λ pos. short-or P ws refused _ ms (λ le. live-or P ws refused _ _ _ (λ v. refl) ms (λ live.
+      live-or P ws refused _ _ _ (λ e. refl) (x ∷ []) (λ found. changed-or P ws refused _ x ms _
+      (done (update-holdable limit ms (read limit ws) held pos le live x)))))))

@@ -1,0 +1,10 @@
+pub mod Parts
+pub mod Words
+pub mod Lookups
+pub mod Graph
+pub mod Distance
+pub mod Properties
+pub mod Walk
+pub mod Frames
+pub mod Reading
+pub mod Replay

@@ -1,0 +1,86 @@
+-- The test of a table, words stored and moved, and lists of members: any two results that keep the promise on the same input agree. Assumes nothing.
+use mathlib.Core.Path.{_≡_, refl, sym, ap, _∙_}
+use mathlib.Core.List.{[], _∷_}
+use native.Mathlib.Omega.{arith}
+use lib.ListN.{length}
+use denote.Ref.{now}
+use Rattle.layout.specs.declared.Answer.the-variants.{Full}
+use Rattle.layout.specs.Answers.{Result, result}
+use Rattle.layout.proofs.Answers.{agree}
+use Rattle.edits.specs.declared.Judgement.{Judgement}
+use Rattle.edits.specs.declared.Judgement.the-variants.{Refused, Fine}
+use Rattle.edits.specs.Stages.{orElse}
+use Rattle.agreement.specs.Agreement.{Agrees}
+use Rattle.timed.proofs.timed_well_formed.Kinds as timed-well-formed
+use Rattle.timed.proofs.timed_well_formed.Reads as timed-well-formed-reads
+use Rattle.formed.proofs.all_below.Kinds as all-below
+use Rattle.formed.proofs.all_below.Reads as all-below-reads
+use Rattle.formed.proofs.climbing.Kinds as climbing
+use Rattle.formed.proofs.climbing.Reads as climbing-reads
+use Rattle.formed.proofs.is_shaped.Kinds as is-shaped
+use Rattle.formed.proofs.is_shaped.Reads as is-shaped-reads
+use Rattle.live_members.proofs.all_members_live.Kinds as all-members-live
+use Rattle.live_members.proofs.all_members_live.Reads as all-members-live-reads
+use Rattle.edits.proofs.records.store_zeros.Kinds as store-zeros
+use Rattle.edits.proofs.records.store_zeros.Reads as store-zeros-reads
+use Rattle.edits.proofs.records.put_members.Kinds as put-members
+use Rattle.edits.proofs.records.put_members.Reads as put-members-reads
+use Rattle.edits.proofs.shift.clear_words.Kinds as clear-words
+use Rattle.edits.proofs.shift.clear_words.Reads as clear-words-reads
+use Rattle.edits.proofs.shift.shift_down.Kinds as shift-down
+use Rattle.edits.proofs.shift.shift_down.Reads as shift-down-reads
+use Rattle.strip_vertex.proofs.strip_vertex.Kinds as strip-vertex
+use Rattle.strip_vertex.proofs.strip_vertex.Reads as strip-vertex-reads
+use Rattle.member_lists.proofs.judge_members.Kinds as judge-members
+use Rattle.member_lists.proofs.judge_members.Reads as judge-members-reads
+use Rattle.member_lists.proofs.same_members.Kinds as same-members
+use Rattle.member_lists.proofs.same_members.Reads as same-members-reads
+
+-- ---- the test of a table
+
+pub timed-well-formed-agrees : Agrees 1 timed-well-formed.ps timed-well-formed.r timed-well-formed-reads.Post (λ _ _. [])
+timed-well-formed-agrees κs args a b x y p q = (p ∙ sym q, refl)
+
+pub all-below-agrees : Agrees 1 all-below.ps all-below.r all-below-reads.Post (λ _ _. [])
+all-below-agrees κs args a b x y p q = (p ∙ sym q, refl)
+
+pub climbing-agrees : Agrees 1 climbing.ps climbing.r climbing-reads.Post (λ _ _. [])
+climbing-agrees κs args a b x y p q = (p ∙ sym q, refl)
+
+pub is-shaped-agrees : Agrees 1 is-shaped.ps is-shaped.r is-shaped-reads.Post (λ _ _. [])
+is-shaped-agrees κs args a b x y p q = (p ∙ sym q, refl)
+
+pub all-members-live-agrees : Agrees 1 all-members-live.ps all-members-live.r all-members-live-reads.Post (λ _ _. [])
+all-members-live-agrees κs args a b x y p q = (p ∙ sym q, refl)
+
+-- ---- words stored, cleared and moved
+
+pub store-zeros-agrees : Agrees 1 store-zeros.ps store-zeros.r store-zeros-reads.Post (λ _ x. now (x .0))
+store-zeros-agrees κs args a b x y p q = (refl, p ∙ sym q)
+
+pub put-members-agrees : Agrees 2 put-members.ps put-members.r put-members-reads.Post (λ _ x. now (x .0))
+put-members-agrees κs args a b x y p q = (refl, p ∙ sym q)
+
+pub clear-words-agrees : Agrees 1 clear-words.ps clear-words.r clear-words-reads.Post (λ _ x. now (x .0))
+clear-words-agrees κs args a b x y p q = (refl, p ∙ sym q)
+
+pub shift-down-agrees : Agrees 1 shift-down.ps shift-down.r shift-down-reads.Post (λ _ x. now (x .0))
+shift-down-agrees κs args a b x y p q = (refl, p ∙ sym q)
+
+pub strip-vertex-agrees : Agrees 1 strip-vertex.ps strip-vertex.r strip-vertex-reads.Post (λ _ x. now (x .0))
+strip-vertex-agrees κs args a b x y p q = (refl, p ∙ sym q)
+
+-- ---- a list of members
+
+-- a refusal changes no lent word, and what is fine leaves any result: which of the two was given, and by what answer, shows in the results
+or-else-one : (i j : Judgement) → ((r : Result) → orElse i [] r ≡ orElse j [] r) → i ≡ j
+or-else-one (Refused a) (Refused b) h = ap Refused (agree (result b []) {y = []} (h (result Full [])) refl .0)
+or-else-one (Refused a) Fine h = absurd (omega (arith, ap (λ (r : Result). length (r .lent)) (h (result Full (0 ∷ [])))))
+or-else-one Fine (Refused b) h = absurd (omega (arith, ap (λ (r : Result). length (r .lent)) (h (result Full (0 ∷ [])))))
+or-else-one Fine Fine h = refl
+
+pub judge-members-agrees : Agrees 2 judge-members.ps judge-members.r judge-members-reads.Post (λ _ _. [])
+judge-members-agrees κs args a b x y p q = (or-else-one a b (λ r. p .says [] r ∙ sym (q .says [] r)), refl)
+
+pub same-members-agrees : Agrees 2 same-members.ps same-members.r same-members-reads.Post (λ _ _. [])
+same-members-agrees κs args a b x y p q = (p ∙ sym q, refl)
