@@ -8,7 +8,7 @@ ghost use Rattle.layout.specs.Answers.{onFormed, result};
 ghost use Rattle.edits.specs.Results.{lastNumber, identical, addHyperedgeResult};
 ghost use Rattle.layout.specs.Content.{hyperedgeOf};
 ghost use Rattle.edits.specs.Records.{putHyperedge};
-ghost use Rattle.edits.specs.Stages.{firstIdentical, addNewResult, addJudgedResult};
+ghost use Rattle.edits.specs.Stages.{firstPassing, addNewResult, addJudgedResult};
 use edits::Judgement;
 use edits::records::LAST_NUMBER;
 use edits::records::put_members;
@@ -64,7 +64,7 @@ fn is_identical(t: &[u32], j: usize, members: &[u32], weight: u32) -> bool
 // The place of the first hyperedge that has this list and weight.
 fn find_identical(t: &[u32], members: &[u32], weight: u32) -> Found
     requires { ⌜ Formed limit (now t) ⌝ }
-    ensures { λ r. ⌜ r ≡ firstIdentical (now (members .entry)) weight (readHyperedges limit (now (t .entry))) ⌝ }
+    ensures { λ r. ⌜ r ≡ firstPassing (identical (now (members .entry)) weight) (readHyperedges limit (now (t .entry))) ⌝ }
 {
     let m = layout::hyperedge_count(t);
     let mut j = 0;

@@ -18,12 +18,12 @@ use Rattle.layout.specs.WellFormed.{wellFormed}
 use Rattle.layout.specs.Steps.{StepIn}
 use Rattle.layout.specs.Answers.{Result, result, onLive}
 use Rattle.layout.proofs.Read.{formed-of}
+use Rattle.layout.proofs.Answers.{formed-result}
 use Rattle.traversal.specs.Traversal.{reachable, reachableResult}
 use Rattle.traversal.proofs.Walks.{reachable-walk, walk-reachable}
 use Rattle.structural.specs.Components.{liveCount}
 use Rattle.structural.specs.Sort.{ClosedIn}
 use Rattle.removals.specs.Removals.{Removal, removeAll, keptVertex, withdrawn}
-use Rattle.removals.proofs.Calls.{formed-result}
 use Rattle.removals.proofs.Theorems.{removals-formed, removals-content, removals-words, removals-permute, removals-reach, removals-closed, removals-vertex}
 use Rattle.demands.specs.Sort.{sortCall, Sorts}
 use Rattle.demands.specs.Removals.{AnswersYes, Withdraws}

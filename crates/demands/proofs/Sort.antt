@@ -13,11 +13,10 @@ use Rattle.layout.specs.WellFormed.{wellFormed}
 use Rattle.layout.specs.Inner.{Formed}
 use Rattle.layout.specs.Answers.{Result, result, listed}
 use Rattle.layout.proofs.Read.{formed-of}
-use Rattle.layout.proofs.Answers.{listed-over, listed-fits}
+use Rattle.layout.proofs.Answers.{formed-result, listed-over, listed-fits}
 use Rattle.structural.specs.Components.{liveCount}
 use Rattle.structural.specs.Sort.{SmallestIn, ClosedIn, acyclic, sortResult}
 use Rattle.structural.proofs.Sorting.{closed-or-smallest, closed-answers, smallest-answers, smallest-acyclic, smallest-sort, nine-closed}
-use Rattle.removals.proofs.Calls.{formed-result}
 use Rattle.demands.specs.Sort.{sortCall, Sorts}
 
 module _ (ws lent : List ℕ) (formed : wellFormed limit ws ≡ true) where

@@ -13,14 +13,13 @@ use Rattle.layout.specs.Layout.{limit, read}
 use Rattle.layout.specs.WellFormed.{wellFormed}
 use Rattle.layout.specs.Answers.{Result, result, listed}
 use Rattle.layout.proofs.Read.{formed-of}
-use Rattle.layout.proofs.Answers.{listed-over, listed-fits}
+use Rattle.layout.proofs.Answers.{formed-result, listed-over, listed-fits}
 use Rattle.frames.specs.Frames.{frameText, writeResult}
 use Rattle.frames.specs.Reading.{readResult}
 use Rattle.frames.specs.Faulty.{isWord, Written}
 use Rattle.frame_laws.specs.Longest.{longest}
 use Rattle.frame_laws.proofs.Written.{written-accepted, round-trip}
 use Rattle.frame_laws.proofs.Longest.{accepted-short}
-use Rattle.removals.proofs.Calls.{formed-result}
 use Rattle.demands.specs.Texts.{writeCall, textIn, ReadsBack}
 
 module _ (ws lent : List ℕ) (formed : wellFormed limit ws ≡ true) where

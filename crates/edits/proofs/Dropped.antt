@@ -14,8 +14,8 @@ use Rattle.lists.proofs.Flat.{Uniform, length-pad}
 use Rattle.layout.specs.declared.Found.{Found}
 use Rattle.layout.specs.declared.Found.the-variants.{At, Nothing}
 use Rattle.layout.specs.declared.Answer.the-variants.{Done}
-use Rattle.layout.specs.Content.{vertexNumber, hyperedgeNumber, liveVertices, liveHyperedges, position, noVertex, noHyperedge}
-use Rattle.layout.specs.Layout.{limit, vertexLimit, vertexSize, recordSize, verticesAt, hyperedgesAt, vertexCount, hyperedgeCount, vertexAt, hyperedgeAt, readVertices, readHyperedges, read, hyperedgeWords, words}
+use Rattle.layout.specs.Content.{Hyperedge, Table, vertexNumber, hyperedgeNumber, liveVertices, liveHyperedges, position, noVertex, noHyperedge}
+use Rattle.layout.specs.Layout.{limit, recordSize, hyperedgesAt, nextVertexIn, nextHyperedgeIn, vertexCount, hyperedgeCount, vertexAt, hyperedgeAt, readVertices, readHyperedges, read, hyperedgeWords, words}
 use Rattle.layout.specs.Inner.{Formed}
 use Rattle.layout.specs.Answers.{result, vertexMissing, hyperedgeMissing}
 use Rattle.layout.proofs.Position.{position-found}
@@ -23,7 +23,7 @@ use Rattle.layout.proofs.Read.{live-hyperedges, live-ascends, vertex-found, hyp
 use Rattle.layout.proofs.Words.{words-read}
 use Rattle.layout.proofs.Answers.{on-missing, on-found}
 use Rattle.edits.specs.Edits.{removeVertex, removeHyperedge}
-use Rattle.edits.specs.Removing.{stripped, stripVertex}
+use Rattle.edits.specs.Removing.{stripped, stripVertex, vertexTakenOut}
 use Rattle.edits.specs.Results.{removeVertexResult, removeHyperedgeResult}
 use Rattle.edits.proofs.Laid.{hyperedge-out, vertex-out}
 
@@ -58,15 +58,16 @@ module _ (L : ℕ) (ws : List ℕ) (f : Formed L ws) where
       ∙ hyperedge-out L (read L ws) (rw length-tab (f .shape .vertices-le)) j (rw n (g .0)) (rw n (f .shape .hyperedges-le)) hyperedges-uniform
       ∙ rw (found-out hyperedgeNumber (readHyperedges L ws) noHyperedge refl (rw (live-hyperedges L ws) (f .hyperedges-ascend)) x j e)
 
-  -- the vertex, from the table that lists it no more
-  vertex-dropped : (x i n : ℕ) (ws₁ : List ℕ) → position x (liveVertices (read L ws)) ≡ At i → n ≡ vertexCount ws → ws₁ ≡ words L (stripVertex x (read L ws))
-      → set (take verticesAt ws₁ ++ (shifted (take (vertexLimit * vertexSize) (drop verticesAt ws₁)) (i * vertexSize) vertexSize ++ drop hyperedgesAt ws₁)) 2 (n - 1) ≡ words L (removeVertex x (read L ws))
-  unfolding removeVertex stripVertex stripped
-  vertex-dropped x i n ws₁ e en e₁ =
+  -- the vertex, from a table that has the same vertices and whatever hyperedges
+  pub vertex-dropped : (x i n : ℕ) (es : List Hyperedge) (ws₁ : List ℕ) → position x (liveVertices (read L ws)) ≡ At i → n ≡ vertexCount ws
+      → ws₁ ≡ words L (record { nextVertex = nextVertexIn ws; nextHyperedge = nextHyperedgeIn ws; vertices = readVertices ws; hyperedges = es })
+      → vertexTakenOut i n ws₁
+      ≡ words L (record { nextVertex = nextVertexIn ws; nextHyperedge = nextHyperedgeIn ws; vertices = filter (otherThan vertexNumber x) (readVertices ws); hyperedges = es })
+  vertex-dropped x i n es ws₁ e en e₁ =
+      let t : Table = record { nextVertex = nextVertexIn ws; nextHyperedge = nextHyperedgeIn ws; vertices = readVertices ws; hyperedges = es } in
       let len : length (readVertices ws) ≡ vertexCount ws = length-tab (vertexAt ws) (vertexCount ws) in
-      ap₂ (λ (l : List ℕ) (k : ℕ). set (take verticesAt l ++ (shifted (take (vertexLimit * vertexSize) (drop verticesAt l)) (i * vertexSize) vertexSize ++ drop hyperedgesAt l)) 2 (k - 1))
-      e₁ (en ∙ sym len)
-      ∙ vertex-out L (stripVertex x (read L ws)) (rw len (f .shape .vertices-le)) i (rw len (vertex-found L ws x i e .0))
+      ap₂ (λ (l : List ℕ) (k : ℕ). vertexTakenOut i k l) e₁ (en ∙ sym len)
+      ∙ vertex-out L t (rw len (f .shape .vertices-le)) i (rw len (vertex-found L ws x i e .0))
       ∙ rw (found-out vertexNumber (readVertices ws) noVertex refl (live-ascends L ws f) x i e)
 
 -- ---- for `search`: p is what `find_hyperedge` found, m the count, ws′ the words after `drop_hyperedge`
@@ -98,9 +99,8 @@ module _ (x : ℕ) (ws : List ℕ) (p : Found) (q : p ≡ position x (liveVertic
     vertex-below = rw e (vertex-found limit ws x i (sym q ∙ h) .0)
 
     pub vertex-done : Formed limit ws → (ws₁ ws₂ : List ℕ) → ws₁ ≡ words limit (stripVertex x (read limit ws))
-        → ws₂ ≡ set (take verticesAt ws₁ ++ (shifted (take (vertexLimit * vertexSize) (drop verticesAt ws₁)) (i * vertexSize) vertexSize ++ drop hyperedgesAt ws₁)) 2 (n - 1)
-        → result (Done 0) ws₂ ≡ removeVertexResult x ws (read limit ws)
-    unfolding removeVertexResult
+        → ws₂ ≡ vertexTakenOut i n ws₁ → result (Done 0) ws₂ ≡ removeVertexResult x ws (read limit ws)
+    unfolding removeVertexResult removeVertex stripVertex stripped
     vertex-done f ws₁ ws₂ d₁ d₂ =
-        ap (result (Done 0)) (d₂ ∙ vertex-dropped limit ws f x i n ws₁ (sym q ∙ h) e d₁)
+        ap (result (Done 0)) (d₂ ∙ vertex-dropped limit ws f x i n (stripped x (readHyperedges limit ws)) ws₁ (sym q ∙ h) e d₁)
         ∙ on-found (liveVertices (read limit ws)) vertexMissing x ws _ p q i h

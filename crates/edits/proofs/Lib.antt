@@ -4,9 +4,12 @@ pub mod AddVertex
 pub mod Put
 pub mod AddHyperedge
 pub mod UpdateHyperedge
+pub mod Passing
 pub mod Identical
 pub mod Refusals
 pub mod AddHoldable
+pub mod Holdable
+pub mod Merged
 pub mod Outcomes
 pub mod StaysFormed
 pub mod Copied
@@ -14,4 +17,3 @@ pub mod Laid
 pub mod Dropped
 pub mod OthersKept
 pub mod Stripped
-pub mod Holdable

@@ -1,23 +1,24 @@
--- The ways that an addition or an update of a well-formed table can go: refused, with the words as they were, or done. Assumes nothing.
+-- The ways that an addition, an update or a merge of a well-formed table can go: refused, with the words as they were, or done. Assumes nothing.
 use mathlib.Core.Path.{_≡_, refl}
-use mathlib.Core.Bool.{true, false}
+use mathlib.Core.Bool.{Bool, true, false}
 use mathlib.Core.List.{List, [], _∷_}
 use Prim.Native.Nat.{ℕ, _≤_, _<_}
 use lib.Dec.{eqb, ltb, leb}
 use lib.ListN.{length}
-use borrow.Author.Tests.{ltb-true, leb-true}
+use borrow.Author.Tests.{ltb-true, leb-true, eqb-false}
 use Rattle.lists.specs.Lists.{all, any, sameList}
-use Rattle.lists.proofs.Cases.{on, and-both, or-right}
+use Rattle.lists.proofs.Cases.{on, and-left, and-right, and-both, or-right}
 use Rattle.layout.specs.declared.Answer.{Answer}
-use Rattle.layout.specs.declared.Answer.the-variants.{Done, NoMembers, SameMembers, TooManyMembers, Full, NumbersSpent}
+use Rattle.layout.specs.declared.Answer.the-variants.{Done, NoMembers, SameMembers, TooManyMembers, Full, NumbersSpent, SameVertex}
 use Rattle.layout.specs.Content.{Hyperedge, Table, isLive}
 use Rattle.layout.specs.Layout.{limit, vertexLimit, hyperedgeLimit, read, words}
 use Rattle.layout.specs.WellFormed.{wellFormed, holdable}
 use Rattle.layout.specs.Answers.{number, Result, result, onFormed, onLive}
 use Rattle.layout.proofs.Back.{read-holdable}
-use Rattle.edits.specs.Edits.{addVertex, addHyperedge, updateHyperedge}
-use Rattle.edits.specs.Results.{lastNumber, onSome, onShort, onRoom, onNumber, identical, onNew, onChanged, membersOf, addVertexResult, addHyperedgeResult, updateResult}
+use Rattle.edits.specs.Edits.{addVertex, addHyperedge, updateHyperedge, mergeVertices}
+use Rattle.edits.specs.Results.{lastNumber, onSome, onShort, onRoom, onNumber, identical, onFirst, onChanged, membersOf, onOther, sideBySide, sideBySideIn, addVertexResult, addHyperedgeResult, updateResult, mergeResult}
 use Rattle.edits.proofs.AddHoldable.{add-vertex-holdable, add-hyperedge-holdable, update-holdable}
+use Rattle.edits.proofs.Merged.{Mergeable}
 
 -- what holds of every refusal, and of r where the refusal does not apply; f is what is known there
 module _ (P : Result → Type 0) (ws : List ℕ) (refused : (a : Answer) → eqb (number a) 0 ≡ false → P (result a ws)) (r : Result) where
@@ -47,15 +48,19 @@ module _ (P : Result → Type 0) (ws : List ℕ) (refused : (a : Answer) → eqb
   unfolding onNumber
   number-or next p = on (eqb next lastNumber) (λ e. rw e (refused NumbersSpent refl)) (λ e. rw e p)
 
--- an identical hyperedge answers its number, and the words are as they were
-new-or : (P : Result → Type 0) (ws : List ℕ) (r : Result) (ms : List ℕ) (w : ℕ) (es : List Hyperedge)
-    → (any (identical ms w) es ≡ true → (x : ℕ) → P (result (Done x) ws)) → (any (identical ms w) es ≡ false → P r) → P (onNew ms w es ws r)
-unfolding onNew any
-new-or P ws r ms w [] found f = f refl
-new-or P ws r ms w (e ∷ es) found f =
-    on (identical ms w e)
+  other-or : (v w : ℕ) → ((v ≡ w → ⊥) → P r) → P (onOther v w ws r)
+  unfolding onOther
+  other-or v w f = on (eqb v w) (λ e. rw e (refused (SameVertex (record { 0 = v })) refl)) (λ e. rw e (f (eqb-false v w e)))
+
+-- a hyperedge that passes the test gives the answer of its number, and the words are as they were
+first-or : (P : Result → Type 0) (ws : List ℕ) (r : Result) (p : Hyperedge → Bool) (answer : ℕ → Answer) (es : List Hyperedge)
+    → (any p es ≡ true → (x : ℕ) → P (result (answer x) ws)) → (any p es ≡ false → P r) → P (onFirst p answer es ws r)
+unfolding onFirst any
+first-or P ws r p answer [] found f = f refl
+first-or P ws r p answer (e ∷ es) found f =
+    on (p e)
     (λ q. rw q (found (rw q) (e .number)))
-    (λ q. rw q (new-or P ws r ms w es (λ h. found (or-right (identical ms w e) (any (identical ms w) es) h)) (λ h. f (rw (q, h)))))
+    (λ q. rw q (first-or P ws r p answer es (λ h. found (or-right (p e) (any p es) h)) (λ h. f (rw (q, h)))))
 
 -- ---- the calls: P holds of every refusal, and of what is done
 
@@ -83,7 +88,7 @@ module _ (P : Result → Type 0) (ws : List ℕ) (formed : wellFormed limit ws �
   unfolding addHyperedgeResult
   add-hyperedge-goes ms w found done =
       formed-or (addHyperedgeResult ms w ws) (some-or P ws refused _ ms w (λ pos. short-or P ws refused _ ms (λ le. live-or P ws refused _ _ _ (λ x. refl) ms (λ live.
-      new-or P ws _ ms w _ found (λ new. room-or P ws refused _ _ hyperedgeLimit (λ room. number-or P ws refused _ _
+      first-or P ws _ (identical ms w) Done _ found (λ new. room-or P ws refused _ _ hyperedgeLimit (λ room. number-or P ws refused _ _
       (done new (add-hyperedge-holdable limit ms (read limit ws) held pos le live w room))))))))
 
   pub update-goes : (x : ℕ) (ms : List ℕ)
@@ -94,3 +99,10 @@ module _ (P : Result → Type 0) (ws : List ℕ) (formed : wellFormed limit ws �
       formed-or (updateResult x ms ws) (some-or P ws refused _ ms x (λ pos. short-or P ws refused _ ms (λ le. live-or P ws refused _ _ _ (λ v. refl) ms (λ live.
       live-or P ws refused _ _ _ (λ e. refl) (x ∷ []) (λ found. changed-or P ws refused _ x ms _
       (done (update-holdable limit ms (read limit ws) held pos le live x)))))))
+
+  pub merge-goes : (v w : ℕ) → (Mergeable v w (read limit ws) → P (result (Done 0) (words limit (mergeVertices v w (read limit ws))))) → P (onFormed ws ws (mergeResult v w ws))
+  unfolding mergeResult all
+  merge-goes v w done =
+      formed-or (mergeResult v w ws) (live-or P ws refused _ _ _ (λ x. refl) (v ∷ w ∷ []) (λ live. other-or P ws refused _ v w (λ two.
+      first-or P ws _ (sideBySide v w) sideBySideIn _ (λ found x. refused (sideBySideIn x) refl) (λ apart.
+      done (record { kept-live = and-left _ _ live; gone-live = and-left _ _ (and-right _ _ live); two = two; apart = apart })))))

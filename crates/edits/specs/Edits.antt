@@ -55,6 +55,27 @@ removeVertex v t = record {
   hyperedges = filter hasMembers (map (without v) (t .hyperedges));
 }
 
+-- x, with w read as v
+unfoldable pub readAs : ℕ → ℕ → ℕ → ℕ
+readAs v w x = cond (eqb x w) v x
+
+-- the list with each w become v
+unfoldable pub renamed : ℕ → ℕ → Hyperedge → Hyperedge
+renamed v w e = record { number = e .number; weight = e .weight; members = map (readAs v w) (e .members) }
+
+-- each w in every list becomes v
+unfoldable pub renameVertex : ℕ → ℕ → Table → Table
+renameVertex v w t = record {
+  nextVertex = t .nextVertex;
+  nextHyperedge = t .nextHyperedge;
+  vertices = t .vertices;
+  hyperedges = map (renamed v w) (t .hyperedges);
+}
+
+-- merging w into v: each w in every list becomes v, then w is removed; all else stays
+unfoldable pub mergeVertices : ℕ → ℕ → Table → Table
+mergeVertices v w t = removeVertex w (renameVertex v w t)
+
 -- the hyperedge gone, and nothing else
 unfoldable pub removeHyperedge : ℕ → Table → Table
 removeHyperedge x t = record {

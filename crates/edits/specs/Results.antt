@@ -1,16 +1,18 @@
 -- What each edit answers and leaves, in the order of its refusals; 1 comes before all by `onFormed`. Assumes nothing.
-use mathlib.Core.Bool.{Bool, cond}
+use mathlib.Core.Bool.{Bool, cond, _||_}
 use mathlib.Core.List.{List, [], _∷_}
 use Prim.Native.Nat.{ℕ}
 use lib.Dec.{eqb, leb, ltb}
 use lib.ListN.{length, replicate}
 use Rattle.lists.specs.Tests.{_and_, bit}
 use Rattle.lists.specs.Lists.{sameList}
-use Rattle.layout.specs.declared.Answer.the-variants.{Done, NotWellFormed, NoMembers, SameMembers, TooManyMembers, Full, NumbersSpent}
+use Rattle.layout.specs.declared.Answer.{Answer}
+use Rattle.layout.specs.declared.Answer.the-variants.{Done, NotWellFormed, NoMembers, SameMembers, TooManyMembers, Full, NumbersSpent, SameVertex, SideBySide}
 use Rattle.layout.specs.Content.{Hyperedge, Table}
 use Rattle.layout.specs.Layout.{vertexLimit, hyperedgeLimit, limit, size, words}
+use Rattle.layout.specs.Steps.{makesStep}
 use Rattle.layout.specs.Answers.{Result, result, onLiveVertices, onLiveVertex, onLiveHyperedge}
-use Rattle.edits.specs.Edits.{addVertex, addHyperedge, updateHyperedge, removeVertex, removeHyperedge}
+use Rattle.edits.specs.Edits.{addVertex, addHyperedge, updateHyperedge, removeVertex, mergeVertices, removeHyperedge}
 
 -- the number that is never given
 abbrev pub lastNumber : ℕ
@@ -48,10 +50,14 @@ onNumber next lent r = cond (isSpent next) (result NumbersSpent lent) r
 unfoldable pub identical : List ℕ → ℕ → Hyperedge → Bool
 identical ms w e = sameList ms (e .members) and eqb w (e .weight)
 
+-- the first hyperedge that passes the test gives the answer of its number; they ascend, so it is the lowest
+unfoldable pub onFirst : (Hyperedge → Bool) → (ℕ → Answer) → List Hyperedge → List ℕ → Result → Result
+onFirst p answer [] lent r = r
+onFirst p answer (e ∷ es) lent r = cond (p e) (result (answer (e .number)) lent) (onFirst p answer es lent r)
+
 -- an identical hyperedge answers its number, the first of several
-unfoldable pub onNew : List ℕ → ℕ → List Hyperedge → List ℕ → Result → Result
-onNew ms w [] lent r = r
-onNew ms w (e ∷ es) lent r = cond (identical ms w e) (result (Done (e .number)) lent) (onNew ms w es lent r)
+abbrev pub onNew : List ℕ → ℕ → List Hyperedge → List ℕ → Result → Result
+onNew ms w es lent r = onFirst (identical ms w) Done es lent r
 
 -- the members of the hyperedge of number x
 unfoldable pub membersOf : ℕ → List Hyperedge → List ℕ
@@ -64,6 +70,23 @@ equalsOld x ms t = sameList ms (membersOf x (t .hyperedges))
 
 unfoldable pub onChanged : ℕ → List ℕ → Table → List ℕ → Result → Result
 onChanged x ms t lent r = cond (equalsOld x ms t) (result (SameMembers (record { 0 = x })) lent) r
+
+-- 13: v is w
+abbrev pub isSame : ℕ → ℕ → Bool
+isSame v w = eqb v w
+
+unfoldable pub onOther : ℕ → ℕ → List ℕ → Result → Result
+onOther v w lent r = cond (isSame v w) (result (SameVertex (record { 0 = v })) lent) r
+
+-- 14: v and w stand side by side in a list, v right before w or w right before v; the lowest such hyperedge
+unfoldable pub sideBySide : ℕ → ℕ → Hyperedge → Bool
+sideBySide v w e = makesStep v w e || makesStep w v e
+
+abbrev pub sideBySideIn : ℕ → Answer
+sideBySideIn x = SideBySide (record { 0 = x })
+
+abbrev pub onApart : ℕ → ℕ → List Hyperedge → List ℕ → Result → Result
+onApart v w es lent r = onFirst (sideBySide v w) sideBySideIn es lent r
 
 -- add_vertex: 1, 7, 8
 unfoldable pub addVertexResult : ℕ → List ℕ → Table → Result
@@ -96,6 +119,14 @@ updateResult x ms ws t =
 -- remove_vertex: 1, 3
 unfoldable pub removeVertexResult : ℕ → List ℕ → Table → Result
 removeVertexResult v ws t = onLiveVertex t v ws (result (Done 0) (words limit (removeVertex v t)))
+
+-- merge_vertices: 1, 3 for v, 3 for w, 13, 14
+unfoldable pub mergeResult : ℕ → ℕ → List ℕ → Table → Result
+mergeResult v w ws t =
+    onLiveVertices t (v ∷ w ∷ []) ws
+    (onOther v w ws
+    (onApart v w (t .hyperedges) ws
+    (result (Done 0) (words limit (mergeVertices v w t)))))
 
 -- remove_hyperedge: 1, 4
 unfoldable pub removeHyperedgeResult : ℕ → List ℕ → Table → Result

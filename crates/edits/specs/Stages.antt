@@ -1,6 +1,6 @@
 -- What is left to answer of an edit after its first refusals. Assumes nothing.
 use mathlib.Core.Path.{_≡_}
-use mathlib.Core.Bool.{cond}
+use mathlib.Core.Bool.{Bool, cond}
 use mathlib.Core.List.{List, [], _∷_}
 use Prim.Native.Nat.{ℕ, zero, suc, _≤_, _<_}
 use lib.ListN.{length}
@@ -9,11 +9,11 @@ use Rattle.layout.specs.declared.Found.the-variants.{At, Nothing}
 use Rattle.layout.specs.declared.Answer.the-variants.{Done}
 use Rattle.layout.specs.Content.{Hyperedge, Table}
 use Rattle.layout.specs.Layout.{limit, hyperedgeLimit, words}
-use Rattle.layout.specs.Answers.{Result, result, onLiveVertices, onLiveHyperedge}
+use Rattle.layout.specs.Answers.{Result, result, onLiveVertices, onLiveVertex, onLiveHyperedge}
 use Rattle.edits.specs.declared.Judgement.{Judgement}
 use Rattle.edits.specs.declared.Judgement.the-variants.{Refused, Fine}
-use Rattle.edits.specs.Edits.{addHyperedge, updateHyperedge}
-use Rattle.edits.specs.Results.{onSome, onShort, onRoom, onNumber, identical, onNew, onChanged}
+use Rattle.edits.specs.Edits.{addHyperedge, updateHyperedge, mergeVertices}
+use Rattle.edits.specs.Results.{onSome, onShort, onRoom, onNumber, onNew, onChanged, onOther, onApart}
 
 -- 2, 6, 3
 abbrev pub onMembers : List ℕ → ℕ → Table → List ℕ → Result → Result
@@ -30,13 +30,13 @@ pub record JudgedBy (j : Judgement) (ms : List ℕ) (d : ℕ) (t : Table) : Type
   pub some : j ≡ Fine → 0 < length ms
   pub short : j ≡ Fine → length ms ≤ limit
 
--- the place of the first identical hyperedge, counted from i
-unfoldable pub firstIdenticalFrom : ℕ → List ℕ → ℕ → List Hyperedge → Found
-firstIdenticalFrom i ms w [] = Nothing
-firstIdenticalFrom i ms w (e ∷ es) = cond (identical ms w e) (At i) (firstIdenticalFrom (suc i) ms w es)
+-- the place of the first hyperedge that passes the test, counted from i
+unfoldable pub firstPassingFrom : (Hyperedge → Bool) → ℕ → List Hyperedge → Found
+firstPassingFrom p i [] = Nothing
+firstPassingFrom p i (e ∷ es) = cond (p e) (At i) (firstPassingFrom p (suc i) es)
 
-unfoldable pub firstIdentical : List ℕ → ℕ → List Hyperedge → Found
-firstIdentical ms w es = firstIdenticalFrom zero ms w es
+unfoldable pub firstPassing : (Hyperedge → Bool) → List Hyperedge → Found
+firstPassing p es = firstPassingFrom p zero es
 
 -- add_hyperedge, where no hyperedge is identical: 7, 8
 unfoldable pub addNewResult : List ℕ → ℕ → List ℕ → Table → Result
@@ -56,3 +56,11 @@ updateLiveResult x ms ws t = onChanged x ms t ws (result (Done 0) (words limit (
 -- update_hyperedge_vertices, where 2, 6 and 3 refuse nothing: 4, 5
 unfoldable pub updateJudgedResult : ℕ → List ℕ → List ℕ → Table → Result
 updateJudgedResult x ms ws t = onLiveHyperedge t x ws (updateLiveResult x ms ws t)
+
+-- merge_vertices, where both vertices are live: 13, 14
+unfoldable pub mergeLiveResult : ℕ → ℕ → List ℕ → Table → Result
+mergeLiveResult v w ws t = onOther v w ws (onApart v w (t .hyperedges) ws (result (Done 0) (words limit (mergeVertices v w t))))
+
+-- merge_vertices, where v is live: 3 for w, 13, 14
+unfoldable pub mergeIntoResult : ℕ → ℕ → List ℕ → Table → Result
+mergeIntoResult v w ws t = onLiveVertex t w ws (mergeLiveResult v w ws t)

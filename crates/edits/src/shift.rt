@@ -1,9 +1,11 @@
-// Words moved down, and words cleared.
+// Words moved down, words cleared, and a vertex record taken out.
 ghost use mathlib.Core.Path.{_≡_};
-ghost use Prim.Native.Nat.{_+_, _-_, _≤_};
+ghost use Prim.Native.Nat.{_+_, _-_, _<_, _≤_};
 ghost use lib.ListN.{length, drop, replicate};
 ghost use lib.Seq.{paste};
 ghost use Rattle.lists.specs.Inner.{shifted};
+ghost use Rattle.layout.specs.Layout.{limit, vertexLimit, size};
+ghost use Rattle.edits.specs.Removing.{vertexTakenOut};
 
 // Stores 0 in the k words from a on.
 pub fn clear_words(s: &mut [u32], a: usize, k: usize)
@@ -38,4 +40,18 @@ pub fn shift_down(s: &mut [u32], a: usize, k: usize)
     move_down(s, a, k);
     let e = s.len() - k;
     clear_words(s, e, k);
+}
+
+// Takes out record i of the n vertex records.
+pub fn drop_vertex(t: &mut [u32], i: usize, n: usize)
+    requires { ⌜ (length (now t) ≡ size limit) × ((i < n) × (n ≤ vertexLimit)) ⌝ }
+    ensures { λ _. ⌜ now (t .exit) ≡ vertexTakenOut i n (now (t .entry)) ⌝ }
+{
+    let a = i * layout::VERTEX_SIZE;
+    shift_down(
+        &mut t[layout::VERTICES_AT..layout::HYPEREDGES_AT],
+        a,
+        layout::VERTEX_SIZE,
+    );
+    t[2] = (n - 1) as u32;
 }

@@ -13,7 +13,7 @@ use Rattle.lists.proofs.Cases.{on}
 use Rattle.layout.specs.declared.Found.{Found}
 use Rattle.layout.specs.declared.Found.the-variants.{At, Nothing}
 use Rattle.layout.specs.declared.Answer.{Answer}
-use Rattle.layout.specs.declared.Answer.the-variants.{Done, NotWellFormed, NoMembers, VertexNotLive, HyperedgeNotLive, SameMembers, TooManyMembers, Full, NumbersSpent, ClosedWalk, TooFewHyperedges, NoRoom, BadText}
+use Rattle.layout.specs.declared.Answer.the-variants.{Done, NotWellFormed, NoMembers, VertexNotLive, HyperedgeNotLive, SameMembers, TooManyMembers, Full, NumbersSpent, ClosedWalk, TooFewHyperedges, NoRoom, BadText, SameVertex, SideBySide}
 use Rattle.layout.specs.Content.{Table, position, isLive}
 use Rattle.layout.specs.Layout.{limit, size, read}
 use Rattle.layout.specs.WellFormed.{wellFormed}
@@ -38,6 +38,11 @@ module _ (ws : List ℕ) (r : Bool) (e : r ≡ wellFormed limit ws) where
   pub on-formed : (lent : List ℕ) (f : Table → Result) (x : Result) → not r ≡ false → x ≡ f (read limit ws) → x ≡ onFormed ws lent f
   unfolding onFormed
   on-formed lent f x h q = rw (← e, not-false r h) q
+
+-- a call on a table is what its result says of the content
+pub formed-result : (ws lent : List ℕ) (f : Table → Result) → wellFormed limit ws ≡ true → onFormed ws lent f ≡ f (read limit ws)
+unfolding onFormed
+formed-result ws lent f e = rw e
 
 -- ---- 3 and 4: p is what a find of v returned
 
@@ -96,7 +101,8 @@ decode n d =
     (cond (eqb n 3) (VertexNotLive (record { 0 = d })) (cond (eqb n 4) (HyperedgeNotLive (record { 0 = d }))
     (cond (eqb n 5) (SameMembers (record { 0 = d })) (cond (eqb n 6) (TooManyMembers d) (cond (eqb n 7) Full
     (cond (eqb n 8) NumbersSpent (cond (eqb n 9) ClosedWalk (cond (eqb n 10) TooFewHyperedges
-    (cond (eqb n 11) (NoRoom d) (BadText d))))))))))))
+    (cond (eqb n 11) (NoRoom d) (cond (eqb n 12) (BadText d) (cond (eqb n 13) (SameVertex (record { 0 = d }))
+    (SideBySide (record { 0 = d })))))))))))))))
 
 decoded : (a : Answer) → decode (number a) (detail a) ≡ a
 unfolding decode
@@ -113,6 +119,8 @@ decoded ClosedWalk = refl
 decoded TooFewHyperedges = refl
 decoded (NoRoom k) = refl
 decoded (BadText line) = refl
+decoded (SameVertex v) = refl
+decoded (SideBySide e) = refl
 
 -- any two results that keep one promise agree in answer and lent words
 pub agree : (promised : Result) {a b : Answer} {x y : List ℕ} → result a x ≡ promised → result b y ≡ promised → (a ≡ b) × (x ≡ y)

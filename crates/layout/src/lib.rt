@@ -46,6 +46,8 @@ pub enum Answer {
     TooFewHyperedges,
     NoRoom(usize),
     BadText(usize),
+    SameVertex(VertexIndex),
+    SideBySide(HyperedgeIndex),
 }
 
 // The rules' number and detail of an answer.
@@ -72,6 +74,8 @@ pub fn reply_of(a: Answer) -> Reply
         Answer::TooFewHyperedges => reply_with(10, 0),
         Answer::NoRoom(k) => reply_with(11, k as u64),
         Answer::BadText(line) => reply_with(12, line as u64),
+        Answer::SameVertex(v) => reply_with(13, v.0 as u64),
+        Answer::SideBySide(e) => reply_with(14, e.0 as u64),
     }
 }
 

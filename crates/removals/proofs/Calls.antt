@@ -7,16 +7,13 @@ use Rattle.lists.proofs.Cases.{on}
 use Rattle.layout.specs.Content.{Table, liveVertices, liveHyperedges, isLive}
 use Rattle.layout.specs.Layout.{limit, read, words}
 use Rattle.layout.specs.WellFormed.{wellFormed, holdable}
-use Rattle.layout.specs.Answers.{Result, onFormed, onLive}
+use Rattle.layout.specs.Answers.{Result, onLive}
+use Rattle.layout.proofs.Answers.{formed-result}
 use Rattle.layout.proofs.Back.{read-words, words-formed, read-holdable, exactly-one}
 use Rattle.edits.specs.Edits.{removeVertex, removeHyperedge}
 use Rattle.edits.specs.Results.{removeVertexResult, removeHyperedgeResult}
 use Rattle.removals.specs.Removals.{Removal, vertex, hyperedge, removal, remove, removeAll, withdrawn}
 use Rattle.removals.proofs.Withdrawn.{taken, taken-holdable, withdrawn-first, withdrawn-none, vertex-dead, hyperedge-dead}
-
-pub formed-result : (ws lent : List ℕ) (f : Table → Result) → wellFormed limit ws ≡ true → onFormed ws lent f ≡ f (read limit ws)
-unfolding onFormed
-formed-result ws lent f e = rw e
 
 -- done or refused, the words are those of the content without it
 module _ (ws : List ℕ) (t : Table) (h : holdable limit t ≡ true) (e : words limit t ≡ ws) where

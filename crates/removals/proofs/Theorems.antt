@@ -13,12 +13,13 @@ use Rattle.layout.specs.Layout.{limit, read, words}
 use Rattle.layout.specs.WellFormed.{wellFormed}
 use Rattle.layout.specs.Answers.{Result, result, onFormed, onLive, vertexMissing, hyperedgeMissing}
 use Rattle.layout.specs.Steps.{StepIn}
+use Rattle.layout.proofs.Answers.{formed-result}
 use Rattle.layout.proofs.Back.{read-holdable, exactly-one}
 use Rattle.edits.specs.Results.{membersOf, removeVertexResult, removeHyperedgeResult}
 use Rattle.removals.specs.Orders.{Permutes}
 use Rattle.removals.specs.Removals.{Removal, vertex, hyperedge, removal, remove, removeAll, staysVertex, staysHyperedge, withdrawn}
 use Rattle.removals.proofs.Withdrawn.{withdrawn-permutes}
-use Rattle.removals.proofs.Calls.{formed-result, calls-formed, calls-read}
+use Rattle.removals.proofs.Calls.{calls-formed, calls-read}
 use Rattle.removals.proofs.Live.{live-vertex, live-hyperedge}
 use Rattle.removals.proofs.Steps.{withdrawn-reach, withdrawn-closed}
 

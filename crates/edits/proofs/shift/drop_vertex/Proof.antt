@@ -1,4 +1,4 @@
--- `remove_vertex::drop_vertex` meets its contract. Assumes nothing.
+-- `edits::shift::drop_vertex` meets its contract. Assumes nothing.
 use mathlib.Core.Path.{ap₂}
 use mathlib.Core.List.{List, _++_}
 use Prim.Native.Nat.{ℕ, _*_, _-_}
@@ -7,8 +7,8 @@ use lib.Seq.{drop-drop}
 use denote.Ref.{now}
 use Rattle.layout.specs.Layout.{vertexLimit, vertexSize, verticesAt}
 use borrow.Author.Needs.{needs}
-use Rattle.remove_vertex.proofs.drop_vertex.Statement.{statement}
-use Rattle.remove_vertex.proofs.drop_vertex.Tie as tie
+use Rattle.edits.proofs.shift.drop_vertex.Statement.{statement}
+use Rattle.edits.proofs.shift.drop_vertex.Tie as tie
 
 mul-a : tie.Need-mul-a
 mul-a c = search needs
