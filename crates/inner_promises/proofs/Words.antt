@@ -29,6 +29,10 @@ use Rattle.edits.proofs.shift.clear_words.Kinds as clear-words
 use Rattle.edits.proofs.shift.clear_words.Reads as clear-words-reads
 use Rattle.edits.proofs.shift.shift_down.Kinds as shift-down
 use Rattle.edits.proofs.shift.shift_down.Reads as shift-down-reads
+use Rattle.edits.proofs.shift.drop_vertex.Kinds as drop-vertex
+use Rattle.edits.proofs.shift.drop_vertex.Reads as drop-vertex-reads
+use Rattle.rename_vertex.proofs.rename_vertex.Kinds as rename-vertex
+use Rattle.rename_vertex.proofs.rename_vertex.Reads as rename-vertex-reads
 use Rattle.strip_vertex.proofs.strip_vertex.Kinds as strip-vertex
 use Rattle.strip_vertex.proofs.strip_vertex.Reads as strip-vertex-reads
 use Rattle.member_lists.proofs.judge_members.Kinds as judge-members
@@ -67,8 +71,14 @@ clear-words-agrees κs args a b x y p q = (refl, p ∙ sym q)
 pub shift-down-agrees : Agrees 1 shift-down.ps shift-down.r shift-down-reads.Post (λ _ x. now (x .0))
 shift-down-agrees κs args a b x y p q = (refl, p ∙ sym q)
 
+pub drop-vertex-agrees : Agrees 1 drop-vertex.ps drop-vertex.r drop-vertex-reads.Post (λ _ x. now (x .0))
+drop-vertex-agrees κs args a b x y p q = (refl, p ∙ sym q)
+
 pub strip-vertex-agrees : Agrees 1 strip-vertex.ps strip-vertex.r strip-vertex-reads.Post (λ _ x. now (x .0))
 strip-vertex-agrees κs args a b x y p q = (refl, p ∙ sym q)
+
+pub rename-vertex-agrees : Agrees 1 rename-vertex.ps rename-vertex.r rename-vertex-reads.Post (λ _ x. now (x .0))
+rename-vertex-agrees κs args a b x y p q = (refl, p ∙ sym q)
 
 -- ---- a list of members
 

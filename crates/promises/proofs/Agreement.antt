@@ -18,6 +18,8 @@ use Rattle.update_hyperedge_vertices.proofs.update_hyperedge_vertices.Kinds as 
 use Rattle.update_hyperedge_vertices.proofs.update_hyperedge_vertices.Reads as update-hyperedge-vertices-reads
 use Rattle.remove_vertex.proofs.remove_vertex.Kinds as remove-vertex
 use Rattle.remove_vertex.proofs.remove_vertex.Reads as remove-vertex-reads
+use Rattle.merge_vertices.proofs.merge_vertices.Kinds as merge-vertices
+use Rattle.merge_vertices.proofs.merge_vertices.Reads as merge-vertices-reads
 use Rattle.remove_hyperedge.proofs.remove_hyperedge.Kinds as remove-hyperedge
 use Rattle.remove_hyperedge.proofs.remove_hyperedge.Reads as remove-hyperedge-reads
 use Rattle.hypergraph.proofs.clear.Kinds as clear
@@ -115,6 +117,9 @@ update-hyperedge-vertices-agrees κs args a b x y p q = agree _ p q
 
 pub remove-vertex-agrees : Agrees 1 remove-vertex.ps remove-vertex.r remove-vertex-reads.Post (λ _ x. now (x .0))
 remove-vertex-agrees κs args a b x y p q = agree _ p q
+
+pub merge-vertices-agrees : Agrees 1 merge-vertices.ps merge-vertices.r merge-vertices-reads.Post (λ _ x. now (x .0))
+merge-vertices-agrees κs args a b x y p q = agree _ p q
 
 pub remove-hyperedge-agrees : Agrees 1 remove-hyperedge.ps remove-hyperedge.r remove-hyperedge-reads.Post (λ _ x. now (x .0))
 remove-hyperedge-agrees κs args a b x y p q = agree _ p q

@@ -12,7 +12,7 @@ use Rattle.layout.specs.declared.Answer.the-variants.{Done, BadText}
 use Rattle.layout.specs.Content.{Table, liveVertices, liveHyperedges}
 use Rattle.layout.specs.Layout.{vertexLimit, hyperedgeLimit, limit, size, words, read}
 use Rattle.layout.specs.Answers.{Result, result, onFormed, onLive, listed, vertexMissing, hyperedgeMissing, onLiveVertices}
-use Rattle.edits.specs.Results.{addVertexResult, addHyperedgeResult, updateResult, removeVertexResult, removeHyperedgeResult, clearResult, emptyResult}
+use Rattle.edits.specs.Results.{addVertexResult, addHyperedgeResult, updateResult, removeVertexResult, mergeResult, removeHyperedgeResult, clearResult, emptyResult}
 use Rattle.lookups.specs.declared.Direction.{Direction}
 use Rattle.lookups.specs.declared.Relation.{Relation}
 use Rattle.lookups.specs.declared.Listing.the-variants.{Connecting, Weighing, Holding}
@@ -31,8 +31,8 @@ use Rattle.walk.specs.Walk.{walk, walkResult}
 use Rattle.frames.specs.Frames.{frameText, writeResult}
 use Rattle.frames.specs.Reading.{contentOf, accepted, faultyLine, readResult}
 use Rattle.sort_sheet.specs.Sheet.{sheetResult}
-use Rattle.promises.specs.Refusals.{Judged, content, unformed, unsized, deadVertices, closedWalk, noRoom, addVertexGrounds, addHyperedgeGrounds, updateGrounds, vertexGrounds, hyperedgeGrounds, listingGrounds, intersectionsGrounds, sortGrounds, badText, readGrounds, sheetGrounds}
-use Rattle.promises.proofs.Refusals.{none-refused, off-ground, live-judged, some-judged, short-judged, room-judged, number-judged, new-judged, changed-judged, several-judged, formed-judged, listed-judged}
+use Rattle.promises.specs.Refusals.{Judged, content, unformed, unsized, deadVertices, closedWalk, noRoom, addVertexGrounds, addHyperedgeGrounds, updateGrounds, vertexGrounds, mergeGrounds, hyperedgeGrounds, listingGrounds, intersectionsGrounds, sortGrounds, badText, readGrounds, sheetGrounds}
+use Rattle.promises.proofs.Refusals.{none-refused, off-ground, live-judged, some-judged, short-judged, room-judged, number-judged, new-judged, changed-judged, other-judged, apart-judged, several-judged, formed-judged, listed-judged}
 
 -- ---- edits
 
@@ -64,6 +64,13 @@ pub remove-vertex-judged : (v : ℕ) (ws : List ℕ) → Judged (vertexGrounds (
 unfolding removeVertexResult
 remove-vertex-judged v ws =
     formed-judged ws (removeVertexResult v ws) (live-judged (none-refused refl) (liveVertices (read limit ws)) vertexMissing (v ∷ []))
+
+pub merge-judged : (v w : ℕ) (ws : List ℕ) → Judged (mergeGrounds v w ws) ws (onFormed ws ws (mergeResult v w ws))
+unfolding mergeResult
+merge-judged v w ws =
+    let t = read limit ws in
+    let thirteen = other-judged (apart-judged refl v w (t .hyperedges)) v w in
+    formed-judged ws (mergeResult v w ws) (live-judged thirteen (liveVertices t) vertexMissing (v ∷ w ∷ []))
 
 pub remove-hyperedge-judged : (x : ℕ) (ws : List ℕ) → Judged (hyperedgeGrounds x ws) ws (onFormed ws ws (removeHyperedgeResult x ws))
 unfolding removeHyperedgeResult

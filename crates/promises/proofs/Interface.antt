@@ -15,6 +15,8 @@ use Rattle.vaultsorrel.proofs.vs_update_hyperedge_vertices.Kinds as vs-update-h
 use Rattle.vaultsorrel.proofs.vs_update_hyperedge_vertices.Reads as vs-update-hyperedge-vertices-reads
 use Rattle.vaultsorrel.proofs.vs_remove_vertex.Kinds as vs-remove-vertex
 use Rattle.vaultsorrel.proofs.vs_remove_vertex.Reads as vs-remove-vertex-reads
+use Rattle.vaultsorrel.proofs.vs_merge_vertices.Kinds as vs-merge-vertices
+use Rattle.vaultsorrel.proofs.vs_merge_vertices.Reads as vs-merge-vertices-reads
 use Rattle.vaultsorrel.proofs.vs_remove_hyperedge.Kinds as vs-remove-hyperedge
 use Rattle.vaultsorrel.proofs.vs_remove_hyperedge.Reads as vs-remove-hyperedge-reads
 use Rattle.vaultsorrel.proofs.vs_clear.Kinds as vs-clear
@@ -109,6 +111,9 @@ vs-update-hyperedge-vertices-agrees κs args a b x y p q = replies-agree _ p q
 
 pub vs-remove-vertex-agrees : Agrees 1 vs-remove-vertex.ps vs-remove-vertex.r vs-remove-vertex-reads.Post (λ _ x. now (x .0))
 vs-remove-vertex-agrees κs args a b x y p q = replies-agree _ p q
+
+pub vs-merge-vertices-agrees : Agrees 1 vs-merge-vertices.ps vs-merge-vertices.r vs-merge-vertices-reads.Post (λ _ x. now (x .0))
+vs-merge-vertices-agrees κs args a b x y p q = replies-agree _ p q
 
 pub vs-remove-hyperedge-agrees : Agrees 1 vs-remove-hyperedge.ps vs-remove-hyperedge.r vs-remove-hyperedge-reads.Post (λ _ x. now (x .0))
 vs-remove-hyperedge-agrees κs args a b x y p q = replies-agree _ p q

@@ -15,9 +15,9 @@ use Rattle.layout.specs.Content.{Hyperedge, Table, isLive}
 use Rattle.layout.specs.Layout.{limit, read}
 use Rattle.layout.specs.WellFormed.{wellFormed}
 use Rattle.layout.specs.Answers.{Result, result, onFormed, onLive, fits, listed}
-use Rattle.edits.specs.Results.{hasSome, onSome, isShort, onShort, hasRoom, onRoom, isSpent, onNumber, onNew, equalsOld, onChanged, identical}
+use Rattle.edits.specs.Results.{hasSome, onSome, isShort, onShort, hasRoom, onRoom, isSpent, onNumber, onFirst, onNew, equalsOld, onChanged, identical, isSame, onOther, sideBySide, onApart}
 use Rattle.lookups.specs.Results.{isFew, onSeveral}
-use Rattle.promises.specs.Refusals.{Ground, first, Judged, unformed, noMembers, missing, sameMembers, tooMany, full, spent, tooFew, noRoom, unless}
+use Rattle.promises.specs.Refusals.{Ground, first, Judged, unformed, noMembers, missing, sameMembers, tooMany, full, spent, tooFew, noRoom, sameVertex, besideIn, unless}
 
 -- ---- what a judged call keeps to
 
@@ -94,9 +94,19 @@ module _ {gs : List Ground} {lent : List ℕ} {r : Result} (j : Judged gs lent r
   unfolding onChanged
   changed-judged x ms t = on-ground gs lent r j (sameMembers x ms t) (equalsOld x ms t) refl
 
+  pub other-judged : (v w : ℕ) → Judged (sameVertex v w ∷ gs) lent (onOther v w lent r)
+  unfolding onOther
+  other-judged v w = on-ground gs lent r j (sameVertex v w) (isSame v w) refl
+
   pub several-judged : (xs : List ℕ) → Judged (tooFew xs ∷ gs) lent (onSeveral xs lent r)
   unfolding onSeveral
   several-judged xs = on-ground gs lent r j (tooFew xs) (isFew xs) refl
+
+pub apart-judged : {lent : List ℕ} {r : Result} → r .number ≡ 0 → (v w : ℕ) (es : List Hyperedge) → Judged (map (besideIn v w) es) lent (onApart v w es lent r)
+unfolding onFirst
+apart-judged d v w [] = none-refused d
+apart-judged {lent} {r} d v w (e ∷ es) =
+    on-ground (map (besideIn v w) es) lent (onApart v w es lent r) (apart-judged d v w es) (besideIn v w e) (sideBySide v w e) refl
 
 pub formed-judged : (ws : List ℕ) (f : Table → Result) {lent : List ℕ} {gs : List Ground} → Judged gs lent (f (read limit ws)) → Judged (unformed ws ∷ gs) lent (onFormed ws lent f)
 unfolding onFormed
@@ -127,7 +137,7 @@ answered gs lent r e = record {
 
 pub new-judged : {gs : List Ground} {lent : List ℕ} {r : Result} → Judged gs lent r → (ms : List ℕ) (w : ℕ) (es : List Hyperedge) →
     Judged (map (unless (any (identical ms w) es)) gs) lent (onNew ms w es lent r)
-unfolding any onNew
+unfolding any onFirst
 new-judged {gs} j ms w [] = rw (all-apply gs) j
 new-judged {gs} {lent} j ms w (e ∷ es) = on (identical ms w e)
     (λ h. rw h (answered gs lent (result (Done (e .number)) lent) refl))

@@ -9,12 +9,12 @@ use lib.ListN.{length}
 use Rattle.lists.specs.Tests.{_and_}
 use Rattle.lists.specs.Lists.{any}
 use Rattle.layout.specs.declared.Answer.{Answer}
-use Rattle.layout.specs.declared.Answer.the-variants.{NotWellFormed, NoMembers, SameMembers, TooManyMembers, Full, NumbersSpent, ClosedWalk, TooFewHyperedges, NoRoom, BadText}
-use Rattle.layout.specs.Content.{Table, liveVertices, liveHyperedges, isLive}
+use Rattle.layout.specs.declared.Answer.the-variants.{NotWellFormed, NoMembers, SameMembers, TooManyMembers, Full, NumbersSpent, ClosedWalk, TooFewHyperedges, NoRoom, BadText, SameVertex}
+use Rattle.layout.specs.Content.{Hyperedge, Table, liveVertices, liveHyperedges, isLive}
 use Rattle.layout.specs.Layout.{vertexLimit, hyperedgeLimit, limit, size, read}
 use Rattle.layout.specs.WellFormed.{wellFormed}
 use Rattle.layout.specs.Answers.{Result, result, vertexMissing, hyperedgeMissing, fits}
-use Rattle.edits.specs.Results.{hasSome, isShort, hasRoom, isSpent, equalsOld, identical}
+use Rattle.edits.specs.Results.{hasSome, isShort, hasRoom, isSpent, equalsOld, identical, isSame, sideBySide, sideBySideIn}
 use Rattle.lookups.specs.Results.{isFew}
 use Rattle.structural.specs.Sort.{sortOf, acyclic}
 use Rattle.frames.specs.Reading.{contentOf, accepted, faultyLine}
@@ -92,6 +92,18 @@ noRoom xs lent = record { answer = NoRoom (length xs); applies = not (fits xs le
 abbrev pub badText : List ℕ → Ground
 badText text = record { answer = BadText (faultyLine text); applies = not (accepted text) }
 
+-- 13: v is w
+abbrev pub sameVertex : ℕ → ℕ → Ground
+sameVertex v w = record { answer = SameVertex (record { 0 = v }); applies = isSame v w }
+
+-- 14: v and w stand side by side in the hyperedge
+abbrev pub besideIn : ℕ → ℕ → Hyperedge → Ground
+besideIn v w e = record { answer = sideBySideIn (e .number); applies = sideBySide v w e }
+
+-- 14, for each hyperedge in turn: they ascend, so the first is the lowest
+abbrev pub beside : ℕ → ℕ → Table → List Ground
+beside v w t = map (besideIn v w) (t .hyperedges)
+
 -- ---- the order for each call; ws are the table's words
 
 -- the content that stands in the words
@@ -124,6 +136,11 @@ updateGrounds x ms ws =
 -- remove vertex 1, 3; queries 1, then the first argument before the second
 abbrev pub vertexGrounds : List ℕ → List ℕ → List Ground
 vertexGrounds vs ws = unformed ws ∷ deadVertices (content ws) vs
+
+-- merge 1, 3 for v, 3 for w, 13, 14
+abbrev pub mergeGrounds : ℕ → ℕ → List ℕ → List Ground
+mergeGrounds v w ws =
+    let t = content ws in unformed ws ∷ (deadVertices t (v ∷ w ∷ []) ++ (sameVertex v w ∷ beside v w t))
 
 -- remove hyperedge 1, 4
 abbrev pub hyperedgeGrounds : ℕ → List ℕ → List Ground

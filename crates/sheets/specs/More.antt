@@ -1,11 +1,11 @@
 -- Cases beside the rules' sheets. Assumes nothing.
 use mathlib.Core.List.{List, [], _∷_}
 use Prim.Native.Nat.{ℕ}
-use Rattle.layout.specs.declared.Answer.the-variants.{Done, NoRoom}
+use Rattle.layout.specs.declared.Answer.the-variants.{Done, NoRoom, SameVertex}
 use Rattle.layout.specs.Content.{Table, hyperedgeOf}
 use Rattle.layout.specs.Layout.{limit, words}
-use Rattle.layout.specs.Answers.{Result, result}
-use Rattle.edits.specs.Results.{removeVertexResult}
+use Rattle.layout.specs.Answers.{Result, result, vertexMissing}
+use Rattle.edits.specs.Results.{removeVertexResult, sideBySideIn, mergeResult}
 use Rattle.lookups.specs.declared.Direction.the-variants.{From, To}
 use Rattle.lookups.specs.declared.Relation.the-variants.{Along, Around}
 use Rattle.lookups.specs.Results.{relatedResult, intersectionsResult, degreeResult, connectingResult, fullHyperedgesResult, fullAdjacentResult, weighingResult, vertexIndexResult}
@@ -48,6 +48,16 @@ Gaps = table (vertex 1 ∷ vertex 3 ∷ vertex 4 ∷ []) (hyperedgeOf 0 0 (3 ∷
 abbrev pub Filtered : Table
 Filtered = table (vertex 1 ∷ []) (hyperedgeOf 0 0 (1 ∷ 1 ∷ []) ∷ [])
 
+-- [3,1,3], [0,1] and [3,1]
+abbrev pub Doubled : Table
+Doubled = table (vertex 0 ∷ vertex 1 ∷ vertex 3 ∷ [])
+    (hyperedgeOf 0 0 (3 ∷ 1 ∷ 3 ∷ []) ∷ hyperedgeOf 1 2 (0 ∷ 1 ∷ []) ∷ hyperedgeOf 2 2 (3 ∷ 1 ∷ []) ∷ [])
+
+-- the same, 3 merged into 0: each 3 is 0, and of two identical hyperedges both stay
+abbrev pub Single : Table
+Single = table (vertex 0 ∷ vertex 1 ∷ [])
+    (hyperedgeOf 0 0 (0 ∷ 1 ∷ 0 ∷ []) ∷ hyperedgeOf 1 2 (0 ∷ 1 ∷ []) ∷ hyperedgeOf 2 2 (0 ∷ 1 ∷ []) ∷ [])
+
 -- [0,1] thrice, of weights 2, 1 and 1
 abbrev pub Tied : Table
 Tied = table (vertex 0 ∷ vertex 1 ∷ []) (hyperedgeOf 0 2 (0 ∷ 1 ∷ []) ∷ hyperedgeOf 1 1 (0 ∷ 1 ∷ []) ∷ hyperedgeOf 2 1 (0 ∷ 1 ∷ []) ∷ [])
@@ -61,6 +71,26 @@ answers d = result (Done d) []
 -- a removed vertex is filtered out at every place
 abbrev pub removed-0 : Case
 removed-0 = record { table = Repeated; query = removeVertexResult 0 (words limit Repeated); answer = result (Done 0) (words limit Filtered) }
+
+-- a merged vertex is read as the other at every place; two of it in a row become two of the other
+abbrev pub merged-3 : Case
+merged-3 = record { table = Doubled; query = mergeResult 0 3 (words limit Doubled); answer = result (Done 0) (words limit Single) }
+
+abbrev pub merged-row : Case
+merged-row = record { table = Lone; query = mergeResult 0 1 (words limit Lone); answer = result (Done 0) (words limit Loop) }
+
+-- side by side, in either order: the lowest such hyperedge; a vertex and itself; one that is not live comes before that
+abbrev pub beside-K : Case
+beside-K = record { table = K; query = mergeResult 0 1 (words limit K); answer = result (sideBySideIn 0) (words limit K) }
+
+abbrev pub beside-G : Case
+beside-G = record { table = G; query = mergeResult 2 3 (words limit G); answer = result (sideBySideIn 2) (words limit G) }
+
+abbrev pub merged-itself : Case
+merged-itself = record { table = G; query = mergeResult 1 1 (words limit G); answer = result (SameVertex (record { 0 = 1 })) (words limit G) }
+
+abbrev pub merged-dead : Case
+merged-dead = record { table = G; query = mergeResult 9 9 (words limit G); answer = result (vertexMissing 9) (words limit G) }
 
 -- adjacent vertices and neighbourhoods
 abbrev pub after-0 : Case
@@ -201,7 +231,8 @@ tie = record { table = Tied; query = pairResult 0 1 (lent 7); answer = gives (1 
 -- all of them
 abbrev pub more : List Case
 more =
-    removed-0 ∷ after-0 ∷ before-2 ∷ around-2 ∷ around-4 ∷ full-after-0 ∷ full-before-1
+    removed-0 ∷ merged-3 ∷ merged-row ∷ beside-K ∷ beside-G ∷ merged-itself ∷ merged-dead
+    ∷ after-0 ∷ before-2 ∷ around-2 ∷ around-4 ∷ full-after-0 ∷ full-before-1
     ∷ full-repeated ∷ out-of-0 ∷ into-1 ∷ connecting-K ∷ connecting-none ∷ weighing-2
     ∷ index-3 ∷ holding-3 ∷ intersecting ∷ intersecting-twice ∷ breadth-first ∷ depth-first
     ∷ reached-2 ∷ not-back ∷ reached-itself ∷ sort-kept ∷ sort-no-room ∷ acyclic-G
