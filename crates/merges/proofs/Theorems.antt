@@ -4,17 +4,16 @@ use mathlib.Core.Bool.{true}
 use mathlib.Core.List.{List, map}
 use Prim.Native.Nat.{ℕ}
 use Rattle.lists.specs.Lists.{filter, otherThan}
-use Rattle.walks.specs.Walks.{Reach}
 use Rattle.walks.proofs.Walks.{reach-map}
-use Rattle.layout.specs.Content.{Vertex, Table, vertexNumber}
+use Rattle.layout.specs.Content.{Table, vertexNumber}
 use Rattle.layout.specs.Layout.{limit, words}
 use Rattle.layout.specs.WellFormed.{wellFormed, holdable}
 use Rattle.layout.specs.Steps.{hasStep, StepIn}
 use Rattle.layout.proofs.Back.{read-holdable}
-use Rattle.edits.specs.Edits.{readAs, renamed, mergeVertices}
+use Rattle.edits.specs.Edits.{renamed, mergeVertices}
 use Rattle.edits.proofs.Merged.{Mergeable, merge-is}
 use Rattle.edits.proofs.StaysFormed.{merge-stays}
-use Rattle.merges.specs.Merges.{merged, Accepted, before, after, StepReadAs, AsOne, hasNumber, Merges}
+use Rattle.merges.specs.Merges.{merged, Accepted, before, after, StepReadAs, hasNumber, Merges}
 use Rattle.merges.proofs.Walks.{reach-one, one-reach}
 use Rattle.merges.proofs.Apart.{self-step}
 use Rattle.merges.proofs.Content.{kept-same, apart-of, step-left, left-step, first-mergeable, then-mergeable, merges-swap}
