@@ -21,17 +21,17 @@ read-back v w x y ne e = on-same x w (λ p. absurd (ne (sym (read-gone v w x p) 
 
 module _ (R : ℕ → ℕ → Type 0) (v w : ℕ) where
   -- where no step joins v and w, a step of x to itself was one of w to itself, or of x
-  pub self-step : Apart R v w → (x : ℕ) → StepReadAs v w R x x → R v v ⊎ (R w w ⊎ R x x)
+  pub self-step : Apart R v w → (x : ℕ) → StepReadAs v w R x x → R w w ⊎ R x x
   self-step a x s =
       on-same (s .from) w
       (λ p. on-same (s .to) w
-      (λ q. inr (inl (subst₂ R p q (s .step))))
+      (λ q. inl (subst₂ R p q (s .step)))
       (λ nq. absurd (a .1 (subst₂ R p (sym (read-other v w (s .to) nq) ∙ s .to-reads ∙ sym (s .from-reads) ∙ read-gone v w (s .from) p) (s .step)))))
       (λ np. on-same (s .to) w
       (λ q. absurd (a .0 (subst₂ R (sym (read-other v w (s .from) np) ∙ s .from-reads ∙ sym (s .to-reads) ∙ read-gone v w (s .to) q) q (s .step))))
-      (λ nq. inr (inr (subst₂ R (sym (read-other v w (s .from) np) ∙ s .from-reads) (sym (read-other v w (s .to) nq) ∙ s .to-reads) (s .step)))))
+      (λ nq. inr (subst₂ R (sym (read-other v w (s .from) np) ∙ s .from-reads) (sym (read-other v w (s .to) nq) ∙ s .to-reads) (s .step))))
 
-  module _ (x : ℕ) (two : v ≡ w → ⊥) (other : x ≡ w → ⊥) (b : Apart (StepReadAs v w R) v x) where
+  module _ (x : ℕ) (other : x ≡ w → ⊥) (b : Apart (StepReadAs v w R) v x) where
     -- v and x, apart with w read as v, were apart
     pub was-apart : Apart R v x
     was-apart = (
@@ -47,8 +47,8 @@ module _ (R : ℕ → ℕ → Type 0) (v w : ℕ) where
     )
 
     -- so v and w, where they were apart, are apart with x read as v
-    pub stays-apart : Apart R v w → Apart (StepReadAs v x R) v w
-    stays-apart a = (
+    pub stays-apart : (v ≡ w → ⊥) → Apart R v w → Apart (StepReadAs v x R) v w
+    stays-apart two a = (
       λ s. let q : s .to ≡ w = read-back v x (s .to) w two (s .to-reads) in
           on-same (s .from) x
           (λ p. third-apart .1 (subst₂ R p q (s .step)))

@@ -21,6 +21,17 @@ use Rattle.merges.proofs.Steps.{renamed-was, renamed-stays}
 use Rattle.merges.proofs.Walks.{read-kept}
 use Rattle.merges.proofs.Apart.{Apart, apart-map, was-apart, stays-apart}
 
+-- ---- what is left
+
+-- the vertices but w, and each hyperedge with w read as v in its list
+abbrev pub left : ℕ → ℕ → Table → Table
+left v w t = record {
+  nextVertex = t .nextVertex;
+  nextHyperedge = t .nextHyperedge;
+  vertices = filter (otherThan vertexNumber w) (t .vertices);
+  hyperedges = map (renamed v w) (t .hyperedges);
+}
+
 -- ---- vertices
 
 -- v is the vertex that it was
@@ -83,7 +94,7 @@ module _ (L v w x : ℕ) (t : Table) (h : holdable L t ≡ true) (m : Mergeable 
       kept-live = m .kept-live;
       gone-live = and-right _ _ (sym (live-left v w t x) ∙ n .gone-live);
       two = n .two;
-      apart = apart-by v x t (was-apart (StepIn t) v w x (m .two) third-other apart-read);
+      apart = apart-by v x t (was-apart (StepIn t) v w x third-other apart-read);
     }
 
     pub then-mergeable : Mergeable v w (mergeVertices v x t)
@@ -92,7 +103,7 @@ module _ (L v w x : ℕ) (t : Table) (h : holdable L t ≡ true) (m : Mergeable 
       gone-live = live-left v x t w ∙ and-both _ _ (ap not (ne-eqb w x (λ q. third-other (sym q)))) (m .gone-live);
       two = m .two;
       apart = apart-by v w (mergeVertices v x t) (apart-map (step-left L v x t h (n .two)) v w
-          (stays-apart (StepIn t) v w x (m .two) third-other apart-read (apart-of v w t (m .apart))));
+          (stays-apart (StepIn t) v w x third-other apart-read (m .two) (apart-of v w t (m .apart))));
     }
 
 -- ---- both orders leave the same
@@ -115,14 +126,6 @@ unfolding renamed
 renamed-swap v w x e =
     ap (λ (ms : List ℕ). record { number = e .number; weight = e .weight; members = ms })
     (map-map (readAs v x) (readAs v w) (e .members) ∙ map-ext _ _ (e .members) (reads-swap v w x) ∙ sym (map-map (readAs v w) (readAs v x) (e .members)))
-
-abbrev left : ℕ → ℕ → Table → Table
-left v w t = record {
-  nextVertex = t .nextVertex;
-  nextHyperedge = t .nextHyperedge;
-  vertices = filter (otherThan vertexNumber w) (t .vertices);
-  hyperedges = map (renamed v w) (t .hyperedges);
-}
 
 left-swap : (v w x : ℕ) (t : Table) → left v x (left v w t) ≡ left v w (left v x t)
 left-swap v w x t = λ i. record {

@@ -1,7 +1,8 @@
 -- What a merge that is not refused leaves; two merges into one vertex, in either order. Assumes nothing.
 use mathlib.Core.Path.{_≡_, refl, sym, ap, _∙_}
 use mathlib.Core.Bool.{true}
-use mathlib.Core.List.{List, map}
+use mathlib.Core.Logic.{inr}
+use mathlib.Core.List.{List}
 use Prim.Native.Nat.{ℕ}
 use Rattle.lists.specs.Lists.{filter, otherThan}
 use Rattle.walks.proofs.Walks.{reach-map}
@@ -10,13 +11,13 @@ use Rattle.layout.specs.Layout.{limit, words}
 use Rattle.layout.specs.WellFormed.{wellFormed, holdable}
 use Rattle.layout.specs.Steps.{hasStep, StepIn}
 use Rattle.layout.proofs.Back.{read-holdable}
-use Rattle.edits.specs.Edits.{renamed, mergeVertices}
+use Rattle.edits.specs.Edits.{mergeVertices}
 use Rattle.edits.proofs.Merged.{Mergeable, merge-is}
 use Rattle.edits.proofs.StaysFormed.{merge-stays}
 use Rattle.merges.specs.Merges.{merged, Accepted, before, after, StepReadAs, hasNumber, Merges}
 use Rattle.merges.proofs.Walks.{reach-one, one-reach}
 use Rattle.merges.proofs.Apart.{self-step}
-use Rattle.merges.proofs.Content.{kept-same, apart-of, step-left, left-step, first-mergeable, then-mergeable, merges-swap}
+use Rattle.merges.proofs.Content.{left, kept-same, apart-of, step-left, left-step, first-mergeable, then-mergeable, merges-swap}
 use Rattle.merges.proofs.Calls.{mergeable-accepted, accepted-mergeable, merged-words, merged-read}
 
 module _ (v w : ℕ) (ws : List ℕ) (formed : wellFormed limit ws ≡ true) (a : Accepted v w ws) where
@@ -29,12 +30,7 @@ module _ (v w : ℕ) (ws : List ℕ) (formed : wellFormed limit ws ≡ true) (a 
   after-is : after v w ws ≡ mergeVertices v w (before ws)
   after-is = merged-read v w ws formed a
 
-  closed-is : after v w ws ≡ record {
-    nextVertex = before ws .nextVertex;
-    nextHyperedge = before ws .nextHyperedge;
-    vertices = filter (otherThan vertexNumber w) (before ws .vertices);
-    hyperedges = map (renamed v w) (before ws .hyperedges);
-  }
+  closed-is : after v w ws ≡ left v w (before ws)
   closed-is = after-is ∙ merge-is limit v w (before ws) held two
 
   vertices-left : after v w ws .vertices ≡ filter (otherThan vertexNumber w) (before ws .vertices)
@@ -59,7 +55,7 @@ module _ (v w : ℕ) (ws : List ℕ) (formed : wellFormed limit ws ≡ true) (a 
     step-stays = stays-step;
     reach-was = λ x y k. one-reach v w (StepIn (before ws)) (reach-map was-step k) x y refl refl;
     reach-stays = λ x y k. reach-map stays-step (reach-one v w (StepIn (before ws)) k);
-    self-was = λ x s. self-step (StepIn (before ws)) v w (apart-of v w (before ws) (accepted-mergeable v w ws formed a .apart)) x (was-step x x s);
+    self-was = λ x s. inr (self-step (StepIn (before ws)) v w (apart-of v w (before ws) (accepted-mergeable v w ws formed a .apart)) x (was-step x x s));
   }
 
 -- ---- w and x merged into v, the one and then the other
