@@ -1,25 +1,27 @@
 -- What one edit of a well-formed table does to the numbers of a kind: it gives none, or the next one. Assumes nothing.
 use mathlib.Core.Path.{_≡_, refl, sym, ap, _∙_}
 use mathlib.Core.Bool.{Bool, true, cond}
-use mathlib.Core.List.{List, [], _∷_, _++_, map}
+use mathlib.Core.List.{List, [], _∷_, _++_, map, map-map}
 use Prim.Native.Nat.{ℕ, _+_}
 use lib.Dec.{eqb}
 use borrow.Author.Tests.{ne-eqb}
-use Rattle.lists.specs.Lists.{any, memb}
+use Rattle.lists.specs.Lists.{any, memb, filter, otherThan}
 use Rattle.lists.proofs.Cases.{on, on-same, clash, and-right, or-right}
-use Rattle.lists.proofs.Memb.{memb-self}
-use Rattle.layout.specs.Content.{Hyperedge, Table, hyperedgeNumber, liveVertices, liveHyperedges}
+use Rattle.lists.proofs.Kept.{any-map, any-kept}
+use Rattle.lists.proofs.Memb.{any-memb, memb-self}
+use Rattle.layout.specs.Content.{Hyperedge, Table, vertexNumber, hyperedgeNumber, liveVertices, liveHyperedges}
 use Rattle.layout.specs.Layout.{limit, read, words}
 use Rattle.layout.specs.WellFormed.{wellFormed, holdable}
-use Rattle.layout.proofs.Back.{read-words, words-formed}
+use Rattle.layout.proofs.Back.{read-words, words-formed, read-holdable}
 use Rattle.edits.specs.Edits
 use Rattle.edits.specs.Results.{identical, membersOf}
 use Rattle.edits.proofs.AddHoldable.{add-vertex-live, add-hyperedge-live, update-live}
-use Rattle.edits.proofs.Outcomes.{add-vertex-goes, add-hyperedge-goes, update-goes}
+use Rattle.edits.proofs.Merged.{merge-is, merge-holdable}
+use Rattle.edits.proofs.Outcomes.{add-vertex-goes, add-hyperedge-goes, update-goes, merge-goes}
 use Rattle.removals.specs.Removals
 use Rattle.removals.specs.Removals.{Removal, removeAll, withdrawn}
 use Rattle.removals.proofs.Theorems.{removals-formed, removals-content, removals-vertex, removals-hyperedge}
-use Rattle.demands.specs.Numbers.{Kind, vertices, hyperedges, ofKind, live, nextNumber, Edit, addVertex, addHyperedge, update, remove, edit, answered, givenBy}
+use Rattle.demands.specs.Numbers.{Kind, vertices, hyperedges, ofKind, live, nextNumber, Edit, addVertex, addHyperedge, update, merge, remove, edit, answered, givenBy}
 
 -- from the words ws to the words s, with the numbers given between them: none, and nothing is live that was not; or the next one, and it is live
 pub data Moved (k : Kind) (ws s : List ℕ) : List ℕ → Type 0 where
@@ -58,6 +60,12 @@ members-live p x (f ∷ es) e =
     (λ q. rw q (memb-self x (map hyperedgeNumber es)))
     (λ ne. or-right (eqb x (f .number)) (memb x (map hyperedgeNumber es)) (members-live p x es (rw (ne-eqb (f .number) x ne) at e)))
 
+-- a key of one that is kept was a key
+key-kept : {A : Type 0} (p : A → Bool) (f : A → ℕ) (xs : List A) (x : ℕ) → memb x (map f (filter p xs)) ≡ true → memb x (map f xs) ≡ true
+key-kept p f xs x m =
+    sym (any-memb x (map f xs)) ∙ any-map f (eqb x) xs
+    ∙ any-kept p (λ a. eqb x (f a)) xs (sym (any-map f (eqb x) (filter p xs)) ∙ any-memb x (map f (filter p xs)) ∙ m)
+
 -- ---- each edit
 
 module _ (ws : List ℕ) (formed : wellFormed limit ws ≡ true) where
@@ -94,6 +102,27 @@ module _ (ws : List ℕ) (formed : wellFormed limit ws ≡ true) where
       update-goes (λ r. Moved hyperedges ws (r .lent) []) ws formed (λ a n. unchanged hyperedges) x ms
       (λ h. to-kept hyperedges ws _ h refl (λ e m. rw (update-live x ms (read limit ws)) at m))
 
+  -- the vertices are the old ones but one, and the hyperedges' numbers are the old ones
+  were-live : (k : Kind) (v w : ℕ) → (v ≡ w → ⊥) → (x : ℕ) → memb x (liveOf k (Edits.mergeVertices v w (read limit ws))) ≡ true → memb x (live k ws) ≡ true
+  unfolding live Edits.renamed
+  were-live vertices v w two x m =
+      key-kept (otherThan vertexNumber w) vertexNumber (read limit ws .vertices) x
+      (rw (merge-is limit v w (read limit ws) (read-holdable limit ws formed) two) at m)
+  were-live hyperedges v w two x m =
+      sym (ap (memb x) (ap liveHyperedges (merge-is limit v w (read limit ws) (read-holdable limit ws formed) two)
+      ∙ map-map hyperedgeNumber (Edits.renamed v w) (read limit ws .hyperedges))) ∙ m
+
+  next-stays : (k : Kind) (v w : ℕ) → nextOf k (Edits.mergeVertices v w (read limit ws)) ≡ nextNumber k ws
+  unfolding nextNumber Edits.mergeVertices Edits.removeVertex Edits.renameVertex
+  next-stays vertices v w = refl
+  next-stays hyperedges v w = refl
+
+  merged : (k : Kind) (v w : ℕ) → Moved k ws (edit (merge v w) ws .lent) []
+  unfolding edit
+  merged k v w =
+      merge-goes (λ r. Moved k ws (r .lent) []) ws formed (λ a n. unchanged k) v w
+      (λ m. to-kept k ws _ (merge-holdable limit v w (read limit ws) (read-holdable limit ws formed) (m .kept-live)) (next-stays k v w) (were-live k v w (m .two)))
+
   -- any list of removals
   removed-next : (k : Kind) (rs : List Removal) → nextNumber k (removeAll rs ws) ≡ nextNumber k ws
   unfolding nextNumber withdrawn
@@ -114,4 +143,5 @@ module _ (ws : List ℕ) (formed : wellFormed limit ws ≡ true) where
   edit-moved k (addVertex w) = vertex-added k w
   edit-moved k (addHyperedge ms w) = hyperedge-added k ms w
   edit-moved k (update x ms) = updated k x ms
+  edit-moved k (merge v w) = merged k v w
   edit-moved k (remove r) = removed k (r ∷ [])

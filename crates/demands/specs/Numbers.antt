@@ -9,7 +9,7 @@ use Rattle.layout.specs.Content.{liveVertices, liveHyperedges}
 use Rattle.layout.specs.Layout.{limit, read}
 use Rattle.layout.specs.WellFormed.{wellFormed}
 use Rattle.layout.specs.Answers.{Result, onFormed}
-use Rattle.edits.specs.Results.{identical, addVertexResult, addHyperedgeResult, updateResult}
+use Rattle.edits.specs.Results.{identical, addVertexResult, addHyperedgeResult, updateResult, mergeResult}
 use Rattle.removals.specs.Removals.{Removal, removal}
 
 -- ---- the two kinds
@@ -39,6 +39,7 @@ pub data Edit : Type 0 where
   addVertex : ℕ → Edit
   addHyperedge : List ℕ → ℕ → Edit
   update : ℕ → List ℕ → Edit
+  merge : ℕ → ℕ → Edit
   remove : Removal → Edit
 
 -- what one call answers and leaves
@@ -46,6 +47,7 @@ unfoldable pub edit : Edit → List ℕ → Result
 edit (addVertex w) ws = onFormed ws ws (addVertexResult w ws)
 edit (addHyperedge ms w) ws = onFormed ws ws (addHyperedgeResult ms w ws)
 edit (update x ms) ws = onFormed ws ws (updateResult x ms ws)
+edit (merge v w) ws = onFormed ws ws (mergeResult v w ws)
 edit (remove r) ws = removal r ws
 
 -- the words after one call for each of the list
@@ -65,6 +67,7 @@ givenBy k (addVertex w) ws = ofKind k (answered (edit (addVertex w) ws)) []
 givenBy k (addHyperedge ms w) ws =
     ofKind k [] (cond (any (identical ms w) (read limit ws .hyperedges)) [] (answered (edit (addHyperedge ms w) ws)))
 givenBy k (update x ms) ws = []
+givenBy k (merge v w) ws = []
 givenBy k (remove r) ws = []
 
 -- the numbers of the kind that one call for each of the list gives, in that order

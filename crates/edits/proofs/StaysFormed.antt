@@ -1,4 +1,4 @@
--- An addition or an update leaves a well-formed table well formed. Assumes nothing.
+-- An addition, an update or a merge leaves a well-formed table well formed. Assumes nothing.
 use mathlib.Core.Path.{_≡_, refl, sym, ap, _∙_}
 use mathlib.Core.Bool.{true}
 use mathlib.Core.List.{List, [], _++_}
@@ -9,12 +9,13 @@ use borrow.Author.Tests.{eq-eqb}
 use Rattle.lists.specs.Tests.{_and_}
 use Rattle.lists.specs.Lists.{all, flat, ascending}
 use Rattle.layout.specs.Content.{Table, numbered, valid}
-use Rattle.layout.specs.Layout.{limit, hyperedgeLimit, vertexLimit, vertexSize, recordSize, verticesAt, size, words}
+use Rattle.layout.specs.Layout.{limit, hyperedgeLimit, vertexLimit, vertexSize, recordSize, verticesAt, size, read, words}
 use Rattle.layout.specs.WellFormed.{wellFormed, holdable}
 use Rattle.layout.specs.Answers.{Result, onFormed}
-use Rattle.layout.proofs.Back.{words-formed}
-use Rattle.edits.specs.Results.{addVertexResult, addHyperedgeResult, updateResult, clearResult}
-use Rattle.edits.proofs.Outcomes.{add-vertex-goes, add-hyperedge-goes, update-goes}
+use Rattle.layout.proofs.Back.{words-formed, read-holdable}
+use Rattle.edits.specs.Results.{addVertexResult, addHyperedgeResult, updateResult, mergeResult, clearResult}
+use Rattle.edits.proofs.Merged.{merge-holdable}
+use Rattle.edits.proofs.Outcomes.{add-vertex-goes, add-hyperedge-goes, update-goes, merge-goes}
 
 -- the lent words of a result are a table
 Leaves : Result → Type 0
@@ -32,6 +33,11 @@ module _ (ws : List ℕ) (h : wellFormed limit ws ≡ true) where
   pub update-stays : (x : ℕ) (ms : List ℕ) → wellFormed limit (onFormed ws ws (updateResult x ms ws) .lent) ≡ true
   unfolding Leaves
   update-stays x ms = update-goes Leaves ws h (λ a n. h) x ms (λ k. words-formed limit _ k)
+
+  pub merge-stays : (v w : ℕ) → wellFormed limit (onFormed ws ws (mergeResult v w ws) .lent) ≡ true
+  unfolding Leaves
+  merge-stays v w =
+      merge-goes Leaves ws h (λ a n. h) v w (λ m. words-formed limit _ (merge-holdable limit v w (read limit ws) (read-holdable limit ws h) (m .kept-live)))
 
 -- ---- clear: the words of the empty table
 

@@ -1,0 +1,1 @@
+// Merging one vertex into another. It has no code of its own.
