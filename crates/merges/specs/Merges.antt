@@ -30,11 +30,20 @@ abbrev pub Accepted : ℕ → ℕ → List ℕ → Type 0
 Accepted v w ws = mergeCall v w ws .number ≡ 0
 
 -- the content of the words before it, and of those after it
-abbrev pub before : List ℕ → Table
-before ws = read limit ws
+abbrev pub contentBefore : List ℕ → Table
+contentBefore ws = read limit ws
 
-abbrev pub after : ℕ → ℕ → List ℕ → Table
-after v w ws = read limit (merged v w ws)
+abbrev pub contentAfter : ℕ → ℕ → List ℕ → Table
+contentAfter v w ws = read limit (merged v w ws)
+
+-- the words after w and then x are merged into v
+abbrev pub mergedBoth : ℕ → ℕ → ℕ → List ℕ → List ℕ
+mergedBoth v w x ws = merged v x (merged v w ws)
+
+-- neither of the two calls is refused
+pub record BothAccepted (v w x : ℕ) (ws : List ℕ) : Type 0 where
+  pub first : Accepted v w ws
+  pub second : Accepted v x (merged v w ws)
 
 -- ---- v and w as one, over any relation
 
@@ -63,21 +72,21 @@ pub record Merges (v w : ℕ) (ws : List ℕ) : Type 0 where
   -- a table again
   pub formed : wellFormed limit (merged v w ws) ≡ true
   -- its words are those of the content with w merged into v
-  pub words-are : merged v w ws ≡ words limit (mergeVertices v w (before ws))
+  pub words-are : merged v w ws ≡ words limit (mergeVertices v w (contentBefore ws))
   -- no number is given, and none comes back
-  pub next-vertex : after v w ws .nextVertex ≡ before ws .nextVertex
-  pub next-hyperedge : after v w ws .nextHyperedge ≡ before ws .nextHyperedge
+  pub next-vertex : contentAfter v w ws .nextVertex ≡ contentBefore ws .nextVertex
+  pub next-hyperedge : contentAfter v w ws .nextHyperedge ≡ contentBefore ws .nextHyperedge
   -- the vertices are those that were there, but w, in their order
-  pub vertices-are : after v w ws .vertices ≡ filter (otherThan vertexNumber w) (before ws .vertices)
+  pub vertices-are : contentAfter v w ws .vertices ≡ filter (otherThan vertexNumber w) (contentBefore ws .vertices)
   -- v is the vertex that it was, its weight included
-  pub kept-is : filter (hasNumber v) (after v w ws .vertices) ≡ filter (hasNumber v) (before ws .vertices)
+  pub kept-is : filter (hasNumber v) (contentAfter v w ws .vertices) ≡ filter (hasNumber v) (contentBefore ws .vertices)
   -- each hyperedge keeps its place, number and weight; its list is the one that it had, as long, with w read as v
-  pub hyperedges-are : after v w ws .hyperedges ≡ map (renamed v w) (before ws .hyperedges)
+  pub hyperedges-are : contentAfter v w ws .hyperedges ≡ map (renamed v w) (contentBefore ws .hyperedges)
   -- the steps are those that were there, with w read as v: none is new, and none is lost
-  pub step-was : (x y : ℕ) → StepIn (after v w ws) x y → StepReadAs v w (StepIn (before ws)) x y
-  pub step-stays : (x y : ℕ) → StepReadAs v w (StepIn (before ws)) x y → StepIn (after v w ws) x y
+  pub step-was : (x y : ℕ) → StepIn (contentAfter v w ws) x y → StepReadAs v w (StepIn (contentBefore ws)) x y
+  pub step-stays : (x y : ℕ) → StepReadAs v w (StepIn (contentBefore ws)) x y → StepIn (contentAfter v w ws) x y
   -- y is reached from x, w read as v, exactly when it was reached with v and w taken as one
-  pub reach-was : (x y : ℕ) → Reach (StepIn (after v w ws)) (readAs v w x) (readAs v w y) → Reach (AsOne v w (StepIn (before ws))) x y
-  pub reach-stays : (x y : ℕ) → Reach (AsOne v w (StepIn (before ws))) x y → Reach (StepIn (after v w ws)) (readAs v w x) (readAs v w y)
+  pub reach-was : (x y : ℕ) → Reach (StepIn (contentAfter v w ws)) (readAs v w x) (readAs v w y) → Reach (AsOne v w (StepIn (contentBefore ws))) x y
+  pub reach-stays : (x y : ℕ) → Reach (AsOne v w (StepIn (contentBefore ws))) x y → Reach (StepIn (contentAfter v w ws)) (readAs v w x) (readAs v w y)
   -- a vertex has a step to itself only where v, w or it had one
-  pub self-was : (x : ℕ) → StepIn (after v w ws) x x → StepIn (before ws) v v ⊎ (StepIn (before ws) w w ⊎ StepIn (before ws) x x)
+  pub self-was : (x : ℕ) → StepIn (contentAfter v w ws) x x → StepIn (contentBefore ws) v v ⊎ (StepIn (contentBefore ws) w w ⊎ StepIn (contentBefore ws) x x)
