@@ -21,7 +21,6 @@ use Rattle.layout.specs.Layout.{limit, hyperedgeLimit, recordSize, size, hypere
 use Rattle.layout.specs.Inner.{Formed}
 use Rattle.layout.proofs.Read.{members-le}
 use Rattle.edits.specs.Edits.{without, hasMembers}
-use Rattle.edits.specs.Rewriting.{Rewritten}
 use Rattle.edits.specs.Removing.{otherWords, stripped, stripVertex, Stripped}
 use Rattle.edits.proofs.Rewritten.{record-stored, rewritten-none, record-same, rewritten-more, rewritten-skip, rewritten-done}
 

@@ -19,7 +19,7 @@ use Rattle.layout.proofs.Position.{found-live, missing-dead}
 use Rattle.layout.proofs.Read.{vertex-found}
 use Rattle.layout.proofs.Back.{read-holdable}
 use Rattle.layout.proofs.Answers.{on-missing, on-found}
-use Rattle.edits.specs.Edits.{renamed, renameVertex, mergeVertices}
+use Rattle.edits.specs.Edits.{renamed, renameVertex}
 use Rattle.edits.specs.Removing.{vertexTakenOut}
 use Rattle.edits.specs.Results.{onOther, sideBySide, sideBySideIn, mergeResult}
 use Rattle.edits.specs.Stages.{firstPassing, mergeLiveResult, mergeIntoResult}
