@@ -46,5 +46,6 @@ int main(void) {
     EDIT("update_hyperedge_vertices", full, 6000, vs_update_hyperedge_vertices(table, WORDS, (vs_hyperedge){100}, members, MEMBERS));
     EDIT("remove_hyperedge", full, 6000, vs_remove_hyperedge(table, WORDS, (vs_hyperedge){0}));
     EDIT("remove_vertex", full, 30000, vs_remove_vertex(table, WORDS, (vs_vertex){0}));
+    EDIT("merge_vertices", full, 10000, vs_merge_vertices(table, WORDS, (vs_vertex){1}, (vs_vertex){0}));
     return 0;
 }

@@ -27,6 +27,7 @@ enum { VERTEX = 1, HYPEREDGE = 2, WEIGHT = 4, SECOND = 8, MEMBERS_LIST = 16, HYP
     F(add_hyperedge, WEIGHT | MEMBERS_LIST, (T, L, a->x))                                                   \
     F(update_hyperedge_vertices, HYPEREDGE | MEMBERS_LIST, (T, E, L))                                       \
     F(remove_vertex, VERTEX, (T, X))                                                                        \
+    F(merge_vertices, VERTEX | SECOND, (T, X, Y))                                                           \
     F(remove_hyperedge, HYPEREDGE, (T, E))                                                                  \
     F(clear, 0, (T))                                                                                        \
     F(is_empty, 0, (T))                                                                                     \

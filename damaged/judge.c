@@ -224,6 +224,15 @@ static void drop_hyperedge(content *c, int gone) {
     }
 }
 
+/* The vertex record alone; the members are places that the caller has set anew. */
+static void drop_vertex(content *c, int gone) {
+    c->n--;
+    for (int i = gone; i < c->n; i++) {
+        c->vertex[i] = c->vertex[i + 1];
+        c->vertex_weight[i] = c->vertex_weight[i + 1];
+    }
+}
+
 static void judge_remove_vertex(const content *c, const arguments *a, verdict *v) {
     int gone = live_vertex(c, a->x, v);
     if (gone < 0)
@@ -237,11 +246,31 @@ static void judge_remove_vertex(const content *c, const arguments *a, verdict *v
         if (after.count[j] == 0)
             drop_hyperedge(&after, j);
     }
-    after.n--;
-    for (int i = gone; i < after.n; i++) {
-        after.vertex[i] = after.vertex[i + 1];
-        after.vertex_weight[i] = after.vertex_weight[i + 1];
+    drop_vertex(&after, gone);
+    write_table(&after, v);
+}
+
+static void judge_merge_vertices(const content *c, const arguments *a, verdict *v) {
+    int stays = live_vertex(c, a->x, v);
+    if (stays < 0)
+        return;
+    int gone = live_vertex(c, a->y, v);
+    if (gone < 0)
+        return;
+    if (stays == gone)
+        SAY(13, a->x);
+    EACH_STEP(c, j, i) {
+        int first = c->member[j][i], second = c->member[j][i + 1];
+        if ((first == stays && second == gone) || (first == gone && second == stays))
+            SAY(14, c->hyperedge[j]);
     }
+    content after = *c;
+    EACH(j, c->m)
+        EACH(i, c->count[j]) {
+            int x = c->member[j][i] == gone ? stays : c->member[j][i];
+            after.member[j][i] = x - (x > gone);
+        }
+    drop_vertex(&after, gone);
     write_table(&after, v);
 }
 

@@ -9,7 +9,7 @@
 #include "judge.h"
 #include "tables.h"
 
-enum { MARGIN = 64, PAINT = 0xA5, NUMBERS_OF_ANSWERS = 13, MOST_SHOWN = 20, MOST_LIST = 8000, MOST_TEXT = 80000, LONGEST_TRIED = 400 };
+enum { MARGIN = 64, PAINT = 0xA5, NUMBERS_OF_ANSWERS = 15, MOST_SHOWN = 20, MOST_LIST = 8000, MOST_TEXT = 80000, LONGEST_TRIED = 400 };
 
 static uint64_t counts[COUNT_OF_FUNCTIONS][NUMBERS_OF_ANSWERS], differing[COUNT_OF_FUNCTIONS];
 static int shown;
@@ -269,6 +269,17 @@ static void throw_sizes(int f) {
     }
 }
 
+/* A merge of every two live vertices; of a full table of each fifth one. */
+static void throw_merges(void) {
+    int step = held.n > 64 ? 5 : 1;
+    for (int i = 0; i < held.n; i += step)
+        for (int k = 0; k < held.n; k += step) {
+            lent.x = held.vertex[i];
+            lent.y = held.vertex[k];
+            throw_at(F_merge_vertices, 0);
+        }
+}
+
 /* Every function with every kind of argument on the table in hand. */
 static void throw_arguments(void) {
     choose_numbers();
@@ -302,7 +313,8 @@ static size_t good_bytes;
  * refusal would come if the table's did not. */
 static void throw_every(bool bad) {
     static const uint32_t good_list[] = {0, 0}, bad_list[] = {UINT32_MAX, UINT32_MAX};
-    lent.x = lent.y = bad ? UINT32_MAX : 0;
+    lent.x = bad ? UINT32_MAX : 0;
+    lent.y = bad ? UINT32_MAX : 1;
     lent.size = 3;
     lend_list(bad ? bad_list : good_list, bad ? 0 : 2);
     lend_text(good_text, bad ? 0 : good_bytes);
@@ -338,6 +350,7 @@ static void throw_still_formed(bool all, unsigned turn) {
     throw_at(F_is_empty, 0);
     lend_list(held.hyperedge, 2);
     lent.x = held.n > 0 ? held.vertex[turn % (unsigned)held.n] : 0;
+    lent.y = held.n > 0 ? held.vertex[turn / 2 % (unsigned)held.n] : 0;
     throw_at((int)(turn % COUNT_OF_FUNCTIONS), turn % 2 ? MOST_WORDS : 16);
 }
 
@@ -509,6 +522,7 @@ int main(void) {
             return 2;
         }
         throw_arguments();
+        throw_merges();
         throw_texts(tables[k].table);
         throw_wrong_lengths(tables[k].table);
         if (k < 4) {

@@ -18,6 +18,8 @@
  *   10  fewer than two hyperedges to intersect
  *   11  the answer is longer than the slice             detail: the words (text: bytes) needed
  *   12  the frame text is bad                           detail: the first line that no written text could have there
+ *   13  a vertex is merged into itself                  detail: the vertex
+ *   14  vertices to merge stand side by side            detail: the lowest hyperedge in which they do
  *
  * Where a call is done, the detail is the number given (adds), 1 or 0 (yes or no), the count (degrees), the words or bytes
  * written (listings), else 0. A listing is written from the front of the slice, and the rest of the slice is kept.
@@ -64,6 +66,10 @@ vs_reply vs_update_hyperedge_vertices(uint32_t *table, size_t table_words, vs_hy
 
 /* The vertex goes out of every list; lists that held it alone go with it. Refusals 1, 3. */
 vs_reply vs_remove_vertex(uint32_t *table, size_t table_words, vs_vertex vertex);
+
+/* w is merged into v: each w in every list becomes v, then w is removed. Lists keep their length, and hyperedges that become identical
+ * stay. Side by side is v right before w, or w right before v. Refusals 1, 3 for v, 3 for w, 13, 14. */
+vs_reply vs_merge_vertices(uint32_t *table, size_t table_words, vs_vertex v, vs_vertex w);
 
 /* Refusals 1, 4. */
 vs_reply vs_remove_hyperedge(uint32_t *table, size_t table_words, vs_hyperedge hyperedge);

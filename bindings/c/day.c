@@ -20,6 +20,11 @@ int main(void) {
     for (uint64_t i = 0; i < r.detail; i++)
         printf("%u\n", sorted[i]);
 
+    r = vs_merge_vertices(table, VS_TABLE_WORDS, (vs_vertex){1}, (vs_vertex){3});
+    printf("3 merged into 1: answer %u\n", r.number);
+    r = vs_merge_vertices(table, VS_TABLE_WORDS, (vs_vertex){1}, (vs_vertex){0});
+    printf("0 merged into 1: refused %u, side by side in hyperedge %u\n", r.number, (unsigned)r.detail);
+
     vs_add_hyperedge(table, VS_TABLE_WORDS, (const uint32_t[]){2, 0}, 2, 1);
     r = vs_topological_sort(table, VS_TABLE_WORDS, sorted, 8);
     printf("with a step from 2 back to 0: refused %u\n", r.number);

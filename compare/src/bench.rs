@@ -178,6 +178,9 @@ fn of_kind(kind: Kind) -> Vec<(&'static str, Medians)> {
     numbers.sort_unstable();
     let (x, y) = (numbers[numbers.len() / 2], numbers[numbers.len() - 1]);
     let (v, w) = (oracle::vertex(x), oracle::vertex(y));
+    let beside = [g.get_adjacent_vertices_from(v), g.get_adjacent_vertices_to(v)].map(|list| list.expect("a list")).concat();
+    let apart = |z: &&u32| **z != x && !beside.contains(&oracle::vertex(**z));
+    let z = *numbers.iter().rev().find(apart).expect("a vertex that stands apart");
     let list = Draw::new(2).members(&numbers[..numbers.len() - 1], kind.members, false);
     let (clock, mut rows) = (clock(), Vec::new());
     macro_rules! edits {
@@ -195,6 +198,7 @@ fn of_kind(kind: Kind) -> Vec<(&'static str, Medians)> {
         add_hyperedge room (&list, 7) (oracle::vertices(&list), 7);
         update_hyperedge_vertices all (Hyperedge(0), &list) (oracle::hyperedge(0), oracle::vertices(&list));
         remove_vertex all (Vertex(x)) (v);
+        merge_vertices all (Vertex(x), Vertex(z)) (&[v, oracle::vertex(z)]);
         remove_hyperedge all (Hyperedge(0)) (oracle::hyperedge(0));
         clear all () ();
     }

@@ -10,6 +10,7 @@ pub enum Edit {
     AddHyperedge(Vec<u32>, u32),
     UpdateHyperedgeVertices(u32, Vec<u32>),
     RemoveVertex(u32),
+    MergeVertices(u32, u32),
     RemoveHyperedge(u32),
     Clear,
 }
@@ -98,7 +99,8 @@ impl Both {
         }
     }
 
-    /// Whether the edit is one that the rules compare: within the limits, and at most one hyperedge identical to an added one.
+    /// Whether the edit is one that the rules compare: within the limits, at most one hyperedge identical to an added one, and a merge of
+    /// two vertices after which no list that it changes has equal neighbours, or one that is refused for a vertex that is not live.
     pub fn compared(&self, edit: &Edit) -> bool {
         match edit {
             Edit::AddVertex(_) => self.graph.count_vertices() < 256,
@@ -113,8 +115,21 @@ impl Both {
                 list.len() <= 32 && self.graph.count_hyperedges() < 192 && same.count() < 2
             }
             Edit::UpdateHyperedgeVertices(_, list) => list.len() <= 32,
+            Edit::MergeVertices(v, w) => {
+                let live = |x: u32| self.graph.get_vertex_weight(oracle::vertex(x)).is_ok();
+                !live(*v) || !live(*w) || (v != w && self.merges_apart(*v, *w))
+            }
             _ => true,
         }
+    }
+
+    /// Whether no list that has w has equal neighbours once each w is v.
+    fn merges_apart(&self, v: u32, w: u32) -> bool {
+        self.graph.hyperedges_iter().all(|(e, _)| {
+            let list = oracle::numbers(self.graph.get_hyperedge_vertices(e).expect("live"));
+            let after: Vec<u32> = list.iter().map(|&x| if x == w { v } else { x }).collect();
+            !list.contains(&w) || after.windows(2).all(|pair| pair[0] != pair[1])
+        })
     }
 
     /// Makes the edit on both sides: the two replies, and whether the tables are word by word the same after it.
@@ -142,6 +157,10 @@ impl Both {
             Edit::RemoveVertex(v) => (
                 vaultsorrel::remove_vertex(t, Vertex(*v)),
                 reply(g.remove_vertex(oracle::vertex(*v)), |()| done(0)),
+            ),
+            Edit::MergeVertices(v, w) => (
+                vaultsorrel::merge_vertices(t, Vertex(*v), Vertex(*w)),
+                reply(g.merge_vertices(&oracle::vertices(&[*v, *w])), |()| done(0)),
             ),
             Edit::RemoveHyperedge(e) => (
                 vaultsorrel::remove_hyperedge(t, Hyperedge(*e)),

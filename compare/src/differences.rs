@@ -2,7 +2,7 @@
 use hypergraph::HypergraphQuery;
 
 use crate::calls::{Both, Edit, Query};
-use crate::oracle::Reply;
+use crate::oracle::{self, Reply};
 
 enum Last {
     Edit(Edit),
@@ -106,8 +106,47 @@ fn paths() {
     );
 }
 
+/// The live vertices of a table and the lists of its hyperedges.
+fn held(table: &[u32]) -> String {
+    let (n, m) = (table[2] as usize, table[3] as usize);
+    let vertices: Vec<u32> = (0..n).map(|i| table[4 + 2 * i]).collect();
+    let lists: Vec<&[u32]> = table[516..]
+        .chunks(35)
+        .take(m)
+        .map(|record| &record[3..][..record[2] as usize])
+        .collect();
+    format!("vertices {vertices:?}, lists {lists:?}")
+}
+
+/// A merge of w into v: what each side answers, and what it holds after it.
+fn merge(n: u32, list: &[u32], v: u32, w: u32) {
+    let mut both = Both::new();
+    for edit in table(n, &[(list, 0)], &[]) {
+        both.replies(&edit);
+    }
+    let (ours, rust) = both.replies(&Edit::MergeVertices(v, w));
+    println!("{n} vertices, {list:?}; merge {w} into {v}");
+    println!("  Rust answer {} {}, {}", rust.number, rust.detail, held(&oracle::words(&both.graph)));
+    println!("  here answer {} {}, {}", ours.number, ours.detail, held(&both.table));
+}
+
+/// Where the Rust takes equal neighbours out of the lists that a merge changes, and a vertex merged into itself.
+fn merges() {
+    merge(2, &[0, 1], 0, 1);
+    merge(2, &[1, 0], 0, 1);
+    merge(2, &[1, 1], 0, 1);
+    merge(3, &[2, 2, 1], 0, 1);
+    merge(1, &[0], 0, 0);
+    run_one(
+        "[1], [0,2], both weight 1, merge 1 into 0; a walk from 0 of 3 steps, seed 1",
+        &table(3, &[(&[1], 1), (&[0, 2], 1)], &[Edit::MergeVertices(0, 1)]),
+        Last::Query(Query::RandomWalk(0, 3, 1)),
+    );
+}
+
 pub fn run() {
     limits();
     map_order();
     paths();
+    merges();
 }

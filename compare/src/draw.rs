@@ -53,8 +53,20 @@ impl Draw {
         (0..n).map(|_| self.live_vertex(both)).collect()
     }
 
+    /// Two vertices to merge, mostly such as the rules compare.
+    fn merge(&mut self, both: &Both) -> Edit {
+        let mut edit = Edit::MergeVertices(self.live_vertex(both), self.live_vertex(both));
+        for _ in 0..self.below(6) {
+            if both.compared(&edit) {
+                break;
+            }
+            edit = Edit::MergeVertices(self.live_vertex(both), self.live_vertex(both));
+        }
+        edit
+    }
+
     pub fn edit(&mut self, both: &Both, fresh: &mut u32) -> Edit {
-        match self.below(20) {
+        match self.below(24) {
             0..=7 => Edit::AddHyperedge(self.live_members(both, 6), self.below(5)),
             8..=10 => {
                 let members = self.live_members(both, 6);
@@ -62,7 +74,8 @@ impl Draw {
             }
             11..=13 => Edit::RemoveHyperedge(self.live_hyperedge(both)),
             14..=15 => Edit::RemoveVertex(self.live_vertex(both)),
-            16..=18 => {
+            16..=17 => self.merge(both),
+            18..=22 => {
                 *fresh += 1;
                 Edit::AddVertex(*fresh)
             }

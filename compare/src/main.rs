@@ -1,5 +1,5 @@
-//! Runs the proved code and the Rust on the same inputs and prints, for each function, how many answers were compared and how many
-//! differed; for each difference the smallest input that was found.
+//! Runs the proved code and the Rust on the same inputs and prints, for each function, how many answers were compared, how many of them
+//! were refusals, how many calls were left out, and how many answers differed; for each difference the smallest input that was found.
 mod bench;
 mod calls;
 mod differences;
@@ -12,10 +12,15 @@ use std::path::Path;
 
 use calls::{Both, Edit, Query, name};
 use draw::Draw;
+use oracle::Reply;
 
+/// How many answers were compared, how many of these were refusals and how many differed, and how many calls were left out, on both sides,
+/// as ones that the rules do not compare.
 #[derive(Default)]
 struct Counts {
     compared: u64,
+    refused: u64,
+    left_out: u64,
     differing: u64,
 }
 
@@ -24,11 +29,13 @@ struct Run {
     shown: usize,
 }
 
-/// The table that the edits build, both sides.
+/// The table that the edits build, both sides, without those that the rules do not compare.
 fn built(edits: &[Edit]) -> Both {
     let mut both = Both::new();
     for edit in edits {
-        both.edit(edit);
+        if both.compared(edit) {
+            both.edit(edit);
+        }
     }
     both
 }
@@ -52,9 +59,10 @@ fn smallest(mut edits: Vec<Edit>, query: &Query) -> Vec<Edit> {
 }
 
 impl Run {
-    fn count(&mut self, name: String, differs: bool) {
+    fn count(&mut self, name: String, rust: &Reply, differs: bool) {
         let counts = self.counts.entry(name).or_default();
         counts.compared += 1;
+        counts.refused += u64::from(rust.number != 0);
         counts.differing += u64::from(differs);
     }
 
@@ -67,11 +75,12 @@ impl Run {
 
     fn edit(&mut self, both: &mut Both, edits: &mut Vec<Edit>, edit: Edit) {
         if !both.compared(&edit) {
+            self.counts.entry(name(&edit)).or_default().left_out += 1;
             return;
         }
         let (a, b, same) = both.edit(&edit);
         let differs = a != b || !same;
-        self.count(name(&edit), differs);
+        self.count(name(&edit), &b, differs);
         edits.push(edit);
         if differs {
             self.show(|| format!("differs: {edits:?}\n  ours {a:?}\n  Rust {b:?}, tables the same: {same}"));
@@ -81,7 +90,7 @@ impl Run {
     fn query(&mut self, both: &mut Both, edits: &[Edit], query: Query) {
         let (a, b) = (both.ours(&query), both.rust(&query));
         let differs = !both.agree(&query, &a, &b);
-        self.count(name(&query), differs);
+        self.count(name(&query), &b, differs);
         if differs {
             let least = smallest(edits.to_vec(), &query);
             let mut both = built(&least);
@@ -204,6 +213,19 @@ impl Run {
             self.edit(&mut both, &mut done, edit.clone());
         }
         self.everything(&mut both, &done, vertices, hyperedges);
+        self.merges(&mut both, &done, vertices);
+    }
+
+    /// Every two vertices below the bound and one beyond merged, each time on the same table.
+    fn merges(&mut self, both: &mut Both, edits: &[Edit], vertices: u32) {
+        let (table, graph) = (both.table.clone(), both.graph.clone());
+        for v in 0..=vertices {
+            for w in 0..=vertices {
+                self.edit(both, &mut edits.to_vec(), Edit::MergeVertices(v, w));
+                both.table.clone_from(&table);
+                both.graph = graph.clone();
+            }
+        }
     }
 
     /// A long sequence of random edits on a table of about n vertices, the tables compared after each; where asked, with some queries.
@@ -285,6 +307,13 @@ fn main() {
     }
 }
 
+fn row(name: &str, counts: &Counts) {
+    println!(
+        "{:<42} {:>12} {:>10} {:>10} {:>10}",
+        name, counts.compared, counts.refused, counts.left_out, counts.differing
+    );
+}
+
 fn compare(seed: u64) {
     let mut draw = Draw::new(seed);
     let mut run = Run {
@@ -304,13 +333,18 @@ fn compare(seed: u64) {
     for acyclic in [false, true] {
         run.additions(&mut draw, 256, 192, 32, acyclic);
     }
-    println!("{:<42} {:>12} {:>10}", "function", "compared", "differing");
-    let (mut compared, mut differing) = (0, 0);
+    println!(
+        "{:<42} {:>12} {:>10} {:>10} {:>10}",
+        "function", "compared", "refused", "left out", "differing"
+    );
+    let mut all = Counts::default();
     for (name, counts) in &run.counts {
-        println!("{:<42} {:>12} {:>10}", name, counts.compared, counts.differing);
-        compared += counts.compared;
-        differing += counts.differing;
+        row(name, counts);
+        all.compared += counts.compared;
+        all.refused += counts.refused;
+        all.left_out += counts.left_out;
+        all.differing += counts.differing;
     }
-    println!("{:<42} {:>12} {:>10}", "all", compared, differing);
-    std::process::exit(i32::from(differing != 0));
+    row("all", &all);
+    std::process::exit(i32::from(all.differing != 0));
 }

@@ -138,6 +138,11 @@ impl Records {
                 self.word(*e);
             }
             Edit::Clear => self.byte(6),
+            Edit::MergeVertices(v, w) => {
+                self.byte(9);
+                self.word(*v);
+                self.word(*w);
+            }
         }
         self.answer(number, detail);
     }

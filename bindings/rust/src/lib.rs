@@ -38,6 +38,10 @@ pub enum Refusal {
     NoRoom(u64),
     /// With the faulty line.
     BadText(u64),
+    /// A vertex is merged into itself.
+    SameVertex(Vertex),
+    /// With the lowest hyperedge in which the vertices to merge stand side by side.
+    SideBySide(Hyperedge),
 }
 
 impl Refusal {
@@ -56,6 +60,8 @@ impl Refusal {
             Refusal::TooFewHyperedges => 10,
             Refusal::NoRoom(_) => 11,
             Refusal::BadText(_) => 12,
+            Refusal::SameVertex(_) => 13,
+            Refusal::SideBySide(_) => 14,
         }
     }
 
@@ -63,8 +69,8 @@ impl Refusal {
     pub fn detail(self) -> u64 {
         match self {
             Refusal::NoMembers(d) => d.into(),
-            Refusal::VertexNotLive(v) => v.0.into(),
-            Refusal::HyperedgeNotLive(e) | Refusal::SameMembers(e) => e.0.into(),
+            Refusal::VertexNotLive(v) | Refusal::SameVertex(v) => v.0.into(),
+            Refusal::HyperedgeNotLive(e) | Refusal::SameMembers(e) | Refusal::SideBySide(e) => e.0.into(),
             Refusal::TooManyMembers(d) | Refusal::NoRoom(d) | Refusal::BadText(d) => d,
             _ => 0,
         }
@@ -97,6 +103,8 @@ impl Reply {
             10 => Refusal::TooFewHyperedges,
             11 => Refusal::NoRoom(self.detail),
             12 => Refusal::BadText(self.detail),
+            13 => Refusal::SameVertex(Vertex(word)),
+            14 => Refusal::SideBySide(Hyperedge(word)),
             other => unreachable!("answer number {other}"),
         })
     }
@@ -116,6 +124,7 @@ mod c {
             count: usize,
         ) -> Reply;
         pub fn vs_remove_vertex(table: *mut u32, table_words: usize, vertex: Vertex) -> Reply;
+        pub fn vs_merge_vertices(table: *mut u32, table_words: usize, v: Vertex, w: Vertex) -> Reply;
         pub fn vs_remove_hyperedge(table: *mut u32, table_words: usize, hyperedge: Hyperedge) -> Reply;
         pub fn vs_clear(table: *mut u32, table_words: usize) -> Reply;
         pub fn vs_is_empty(table: *const u32, table_words: usize) -> Reply;
@@ -256,6 +265,12 @@ pub fn update_hyperedge_vertices(table: &mut [u32], hyperedge: Hyperedge, member
 pub fn remove_vertex(table: &mut [u32], vertex: Vertex) -> Answer {
     // The pointers and counts are those of slices that live and do not overlap for the time of the call.
     unsafe { c::vs_remove_vertex(table.as_mut_ptr(), table.len(), vertex) }.answer()
+}
+
+/// Each `w` in every list becomes `v`, then `w` is removed. Refused where they stand side by side.
+pub fn merge_vertices(table: &mut [u32], v: Vertex, w: Vertex) -> Answer {
+    // The pointers and counts are those of slices that live and do not overlap for the time of the call.
+    unsafe { c::vs_merge_vertices(table.as_mut_ptr(), table.len(), v, w) }.answer()
 }
 
 /// The hyperedge goes.

@@ -37,6 +37,29 @@ fn a_table_is_filled_asked_and_refused() {
 }
 
 #[test]
+fn two_vertices_are_merged() {
+    let mut table = vec![0; TABLE_WORDS];
+    for weight in 0..4 {
+        add_vertex(&mut table, weight).unwrap();
+    }
+    for list in [[0, 2], [1, 2], [3, 1]] {
+        add_hyperedge(&mut table, &list, 5).unwrap();
+    }
+    let before = table.clone();
+    assert_eq!(merge_vertices(&mut table, Vertex(9), Vertex(8)), Err(Refusal::VertexNotLive(Vertex(9))));
+    assert_eq!(merge_vertices(&mut table, Vertex(0), Vertex(8)), Err(Refusal::VertexNotLive(Vertex(8))));
+    assert_eq!(merge_vertices(&mut table, Vertex(3), Vertex(3)), Err(Refusal::SameVertex(Vertex(3))));
+    assert_eq!(merge_vertices(&mut table, Vertex(2), Vertex(1)), Err(Refusal::SideBySide(Hyperedge(1))));
+    assert_eq!(table, before);
+
+    assert_eq!(merge_vertices(&mut table, Vertex(0), Vertex(1)), Ok(0));
+    let mut out = [7; 10];
+    assert_eq!(get_full_vertex_hyperedges(&table, Vertex(0), &mut out), Ok(9));
+    assert_eq!(out, [2, 0, 2, 2, 0, 2, 2, 3, 0, 7]);
+    assert_eq!(remove_vertex(&mut table, Vertex(1)), Err(Refusal::VertexNotLive(Vertex(1))));
+}
+
+#[test]
 fn frame_text_reads_back() {
     let mut table = vec![0; TABLE_WORDS];
     add_vertex(&mut table, 7).unwrap();

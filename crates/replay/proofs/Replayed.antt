@@ -13,14 +13,14 @@ use Rattle.lists.proofs.Tab.{length-tab}
 use Rattle.layout.specs.Layout.{limit}
 use Rattle.layout.specs.declared.Answer.{Answer}
 use Rattle.layout.specs.Answers.{Result, number, detail, result, onFormed}
-use Rattle.edits.specs.Results.{addVertexResult, addHyperedgeResult, updateResult, removeVertexResult, removeHyperedgeResult, clearResult}
+use Rattle.edits.specs.Results.{addVertexResult, addHyperedgeResult, updateResult, removeVertexResult, mergeResult, removeHyperedgeResult, clearResult}
 use Rattle.replay.specs.declared.Value.{Value}
 use Rattle.replay.specs.declared.LongValue.{LongValue}
 use Rattle.replay.specs.declared.Extent.{Extent}
 use Rattle.replay.specs.declared.Held.{Held}
 use Rattle.replay.specs.Records.{lost, whole, fourRead, eightRead, wordRead, wordNumber, byteRead, extentAt, listAt}
 use Rattle.replay.specs.Judging.{AfterCount, countedIn, comparedIn, answerAt, afterCount, countedAt, sumOf, summedAt}
-use Rattle.replay.specs.Replayed.{LeftBy, leftBy, compared, edited, vertexAdded, hyperedgeAdded, hyperedgeUpdated, vertexRemoved, hyperedgeRemoved, tableSummed, endAt, recordAt}
+use Rattle.replay.specs.Replayed.{LeftBy, leftBy, compared, edited, vertexAdded, hyperedgeAdded, hyperedgeUpdated, vertexRemoved, hyperedgeRemoved, verticesMerged, tableSummed, endAt, recordAt}
 
 -- the words of a list, taken from the room that they were read into
 list-taken : (s : List ℕ) (p : ℕ) (d : List ℕ) → take (extentAt s p (length d) .count) (over (listAt s p (length d)) d) ≡ listAt s p (length d)
@@ -50,6 +50,11 @@ module _ (s : List ℕ) (p : ℕ) (t tally : List ℕ) (r : ℕ) (t′ tally′ 
         → leftBy r t′ tally′ ≡ hyperedgeRemoved s p t tally
     unfolding hyperedgeRemoved
     hyperedge-removed e j = rw (← i) (edited-as (w .at) 4 _ e j)
+
+    pub vertices-merged : (x : Value) → x ≡ wordRead s (w .at) → result a t′ ≡ onFormed t t (mergeResult (w .value) (x .value) t)
+        → afterCount r tally′ ≡ countedAt 7 (answerAt s (x .at) (number a) (detail a)) tally → leftBy r t′ tally′ ≡ verticesMerged s p t tally
+    unfolding verticesMerged
+    vertices-merged x h e j = rw (← i, ← h) (edited-as (x .at) 7 _ e j)
 
     pub hyperedge-updated : (d m : List ℕ) (l : Extent) → l ≡ extentAt s (w .at) (length d) → m ≡ over (listAt s (w .at) (length d)) d → length d ≡ limit
         → result a t′ ≡ onFormed t t (updateResult (w .value) (take (l .count) m) t) → afterCount r tally′ ≡ countedAt 2 (answerAt s (l .at) (number a) (detail a)) tally
@@ -107,8 +112,9 @@ pub last-kind : (s : List ℕ) (kind p : ℕ) (t tally : List ℕ) (r : ℕ) →
 unfolding recordAt
 last-kind s kind p t tally r k e = rw (e, k)
 
-pub no-kind : (s : List ℕ) (kind p : ℕ) (t tally : List ℕ) → (kind ≡ 1 → ⊥) → (kind ≡ 2 → ⊥) → (kind ≡ 3 → ⊥) → (kind ≡ 4 → ⊥) → (kind ≡ 5 → ⊥) → (kind ≡ 6 → ⊥) → (kind ≡ 7 → ⊥) → (kind ≡ 255 → ⊥)
+pub no-kind : (s : List ℕ) (kind p : ℕ) (t tally : List ℕ) → (kind ≡ 1 → ⊥) → (kind ≡ 2 → ⊥) → (kind ≡ 3 → ⊥) → (kind ≡ 4 → ⊥) → (kind ≡ 5 → ⊥) → (kind ≡ 6 → ⊥) → (kind ≡ 7 → ⊥) → (kind ≡ 9 → ⊥)
+    → (kind ≡ 255 → ⊥)
     → leftBy lost t tally ≡ recordAt s kind p t tally
 unfolding recordAt
-no-kind s kind p t tally a b c d e f g h =
-    rw (ne-eqb kind 1 a, ne-eqb kind 2 b, ne-eqb kind 3 c, ne-eqb kind 4 d, ne-eqb kind 5 e, ne-eqb kind 6 f, ne-eqb kind 7 g, ne-eqb kind 255 h)
+no-kind s kind p t tally a b c d e f g h i =
+    rw (ne-eqb kind 1 a, ne-eqb kind 2 b, ne-eqb kind 3 c, ne-eqb kind 4 d, ne-eqb kind 5 e, ne-eqb kind 6 f, ne-eqb kind 7 g, ne-eqb kind 9 h, ne-eqb kind 255 i)

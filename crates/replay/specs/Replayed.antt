@@ -7,7 +7,7 @@ use lib.ListN.{length}
 use Rattle.lists.specs.Tests.{_and_}
 use Rattle.layout.specs.Layout.{limit}
 use Rattle.layout.specs.Answers.{Result, onFormed}
-use Rattle.edits.specs.Results.{addVertexResult, addHyperedgeResult, updateResult, removeVertexResult, removeHyperedgeResult, clearResult}
+use Rattle.edits.specs.Results.{addVertexResult, addHyperedgeResult, updateResult, removeVertexResult, mergeResult, removeHyperedgeResult, clearResult}
 use Rattle.replay.specs.declared.Held.{Held}
 use Rattle.replay.specs.Records.{lost, whole, fourRead, wordRead, extentAt, listAt}
 use Rattle.replay.specs.Judging.{countedIn, comparedIn, answerAt, sumOf, summedAt}
@@ -56,6 +56,13 @@ vertexRemoved s p t tally = edited s (wordRead s p .at) 3 (onFormed t t (removeV
 unfoldable pub hyperedgeRemoved : List ℕ → ℕ → List ℕ → List ℕ → LeftBy
 hyperedgeRemoved s p t tally = edited s (wordRead s p .at) 4 (onFormed t t (removeHyperedgeResult (wordRead s p .value) t)) tally
 
+-- the two vertices, and the answer
+unfoldable pub verticesMerged : List ℕ → ℕ → List ℕ → List ℕ → LeftBy
+verticesMerged s p t tally =
+    edited s (wordRead s (wordRead s p .at) .at) 7
+    (onFormed t t (mergeResult (wordRead s p .value) (wordRead s (wordRead s p .at) .value) t))
+    tally
+
 -- the sum of all words of the table
 unfoldable pub tableSummed : List ℕ → ℕ → List ℕ → List ℕ → LeftBy
 tableSummed s p t tally = compared 6 (summedAt s p (sumOf t (length t))) t tally
@@ -76,5 +83,6 @@ recordAt s kind p t tally =
     (cond (eqb kind 5) (hyperedgeRemoved s p t tally)
     (cond (eqb kind 6) (edited s p 5 (clearResult t) tally)
     (cond (eqb kind 7) (tableSummed s p t tally)
+    (cond (eqb kind 9) (verticesMerged s p t tally)
     (cond (eqb kind 255) (leftBy (endAt s p tally) t tally)
-    (leftBy lost t tally))))))))
+    (leftBy lost t tally)))))))))

@@ -4,7 +4,7 @@ use hypergraph::is_empty;
 use replay::tally;
 
 // The place of the function in the tally, behind those of the edits.
-const IS_EMPTY: usize = 7;
+const IS_EMPTY: usize = 8;
 
 // The kind of a record, by its first byte: what is asked of the whole table.
 const OF_TABLE: u32 = 8;

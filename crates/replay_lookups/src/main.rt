@@ -3,31 +3,31 @@ use layout::VertexIndex;
 use replay::tally;
 
 // The place of each function in the tally, behind those of the edits.
-const GET_ADJACENT_VERTICES_FROM: usize = 7;
+const GET_ADJACENT_VERTICES_FROM: usize = 8;
 
-const GET_ADJACENT_VERTICES_TO: usize = 8;
+const GET_ADJACENT_VERTICES_TO: usize = 9;
 
-const GET_FULL_ADJACENT_VERTICES_FROM: usize = 9;
+const GET_FULL_ADJACENT_VERTICES_FROM: usize = 10;
 
-const GET_FULL_ADJACENT_VERTICES_TO: usize = 10;
+const GET_FULL_ADJACENT_VERTICES_TO: usize = 11;
 
-const GET_VERTEX_DEGREE_IN: usize = 11;
+const GET_VERTEX_DEGREE_IN: usize = 12;
 
-const GET_VERTEX_DEGREE_OUT: usize = 12;
+const GET_VERTEX_DEGREE_OUT: usize = 13;
 
-const GET_FULL_VERTEX_HYPEREDGES: usize = 13;
+const GET_FULL_VERTEX_HYPEREDGES: usize = 14;
 
-const GET_VERTEX_NEIGHBORHOOD: usize = 14;
+const GET_VERTEX_NEIGHBORHOOD: usize = 15;
 
-const GET_HYPEREDGES_CONNECTING: usize = 15;
+const GET_HYPEREDGES_CONNECTING: usize = 16;
 
-const FIND_HYPEREDGES_BY_WEIGHT: usize = 16;
+const FIND_HYPEREDGES_BY_WEIGHT: usize = 17;
 
-const CONTAINS_VERTEX: usize = 17;
+const CONTAINS_VERTEX: usize = 18;
 
-const GET_VERTEX_INDEX: usize = 18;
+const GET_VERTEX_INDEX: usize = 19;
 
-const GET_HYPEREDGES_INTERSECTIONS: usize = 19;
+const GET_HYPEREDGES_INTERSECTIONS: usize = 20;
 
 // The kinds of the records, by their first byte: what is asked of a vertex, of two vertices, of a weight, of a list of hyperedges.
 const OF_VERTEX: u32 = 16;

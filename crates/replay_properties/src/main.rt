@@ -2,19 +2,19 @@
 use replay::tally;
 
 // The place of each function in the tally, behind those of the edits.
-const GET_ORPHAN_VERTICES: usize = 7;
+const GET_ORPHAN_VERTICES: usize = 8;
 
-const GET_ORPHAN_HYPEREDGES: usize = 8;
+const GET_ORPHAN_HYPEREDGES: usize = 9;
 
-const GET_ENDPOINTS: usize = 9;
+const GET_ENDPOINTS: usize = 10;
 
-const GET_INCLUSIONS: usize = 10;
+const GET_INCLUSIONS: usize = 11;
 
-const FIND_CUT_VERTICES: usize = 11;
+const FIND_CUT_VERTICES: usize = 12;
 
-const GET_NESTEDNESS_PROFILE: usize = 12;
+const GET_NESTEDNESS_PROFILE: usize = 13;
 
-const IS_K_UNIFORM: usize = 13;
+const IS_K_UNIFORM: usize = 14;
 
 // The kinds of the records, by their first byte: what is asked of the whole table, and of a count of members.
 const OF_TABLE: u32 = 48;

@@ -4,29 +4,29 @@ use layout::VertexIndex;
 use replay::tally;
 
 // The place of each function in the tally, behind those of the edits.
-const IS_CONNECTED: usize = 7;
+const IS_CONNECTED: usize = 8;
 
-const IS_ACYCLIC: usize = 8;
+const IS_ACYCLIC: usize = 9;
 
-const TOPOLOGICAL_SORT: usize = 9;
+const TOPOLOGICAL_SORT: usize = 10;
 
-const STRONGLY_CONNECTED_COMPONENTS: usize = 10;
+const STRONGLY_CONNECTED_COMPONENTS: usize = 11;
 
-const CONNECTED_COMPONENTS: usize = 11;
+const CONNECTED_COMPONENTS: usize = 12;
 
-const GET_TRANSITIVE_CLOSURE: usize = 12;
+const GET_TRANSITIVE_CLOSURE: usize = 13;
 
-const GET_BFS: usize = 13;
+const GET_BFS: usize = 14;
 
-const GET_DFS: usize = 14;
+const GET_DFS: usize = 15;
 
-const GET_DIJKSTRA_FROM: usize = 15;
+const GET_DIJKSTRA_FROM: usize = 16;
 
-const IS_REACHABLE: usize = 16;
+const IS_REACHABLE: usize = 17;
 
-const GET_DIJKSTRA_CONNECTIONS_WITH_COST: usize = 17;
+const GET_DIJKSTRA_CONNECTIONS_WITH_COST: usize = 18;
 
-const RANDOM_WALK: usize = 18;
+const RANDOM_WALK: usize = 19;
 
 // The kinds of the records, by their first byte: what is asked of the whole table, of a vertex, of two vertices, of a walk.
 const OF_TABLE: u32 = 32;

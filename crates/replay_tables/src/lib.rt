@@ -1,12 +1,13 @@
 // Tables made by recorded edits.
 ghost use mathlib.Core.Path.{_≡_};
-ghost use Rattle.replay.specs.Replayed.{leftBy, vertexAdded, hyperedgeAdded, hyperedgeUpdated, vertexRemoved, hyperedgeRemoved, tableSummed, endAt, recordAt};
+ghost use Rattle.replay.specs.Replayed.{leftBy, vertexAdded, hyperedgeAdded, hyperedgeUpdated, vertexRemoved, hyperedgeRemoved, verticesMerged, tableSummed, endAt, recordAt};
 use add_hyperedge::add_hyperedge;
 use add_vertex::add_vertex;
 use hypergraph::clear;
 use layout::HyperedgeIndex;
 use layout::VertexIndex;
 use libc::STDOUT_FILENO;
+use merge_vertices::merge_vertices;
 use remove_hyperedge::remove_hyperedge;
 use remove_vertex::remove_vertex;
 use replay::tally::compared;
@@ -74,6 +75,20 @@ fn hyperedge_removed(s: &[u8], at: usize, t: &mut [u32], tally: &mut [u32]) -> u
     )
 }
 
+fn vertices_merged(s: &[u8], at: usize, t: &mut [u32], tally: &mut [u32]) -> usize
+    ensures { λ r. ⌜ leftBy r (now (t .exit)) (now (tally .exit)) ≡ verticesMerged (now (s .entry)) at (now (t .entry)) (now (tally .entry)) ⌝ }
+{
+    let v = word(s, at);
+    let w = word(s, v.at);
+    answer(
+        s,
+        w.at,
+        merge_vertices(t, VertexIndex(v.value), VertexIndex(w.value)),
+        7,
+        tally,
+    )
+}
+
 // All words of the table, by their sum.
 fn table(s: &[u8], at: usize, t: &[u32], tally: &mut [u32]) -> usize
     ensures { λ r. ⌜ leftBy r (now (t .entry)) (now (tally .exit)) ≡ tableSummed (now (s .entry)) at (now (t .entry)) (now (tally .entry)) ⌝ }
@@ -113,6 +128,7 @@ pub fn record(s: &[u8], kind: u32, at: usize, t: &mut [u32], tally: &mut [u32]) 
         5 => hyperedge_removed(s, at, t, tally),
         6 => answer(s, at, clear(t), 5, tally),
         7 => table(s, at, t, tally),
+        9 => vertices_merged(s, at, t, tally),
         255 => end(s, at, tally),
         _ => LOST,
     }
@@ -124,6 +140,7 @@ pub fn lines(tally: &[u32]) {
     line(b"add_hyperedge", 1, tally);
     line(b"update_hyperedge_vertices", 2, tally);
     line(b"remove_vertex", 3, tally);
+    line(b"merge_vertices", 7, tally);
     line(b"remove_hyperedge", 4, tally);
     line(b"clear", 5, tally);
     line(b"table by its sum", 6, tally);

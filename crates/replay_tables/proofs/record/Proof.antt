@@ -29,6 +29,9 @@ answer-requires c κs = search needs
 table-requires : tie.Need-table-requires
 table-requires c κs = search needs
 
+vertices-merged-requires : tie.Need-vertices-merged-requires
+vertices-merged-requires c κs = search needs
+
 end-requires : tie.Need-end-requires
 end-requires c κs = search needs
 
@@ -105,11 +108,21 @@ returns-7 c = search of-kind
 same-length-15 : tie.Need-same-length-15
 same-length-15 c = search needs
 
+same-length-16 : tie.Need-same-length-16
+same-length-16 c = search needs
+
 returns-8 : tie.Need-returns-8
-returns-8 c = search last-kind
+unfolding recordAt
+returns-8 c = search of-kind
+
+same-length-17 : tie.Need-same-length-17
+same-length-17 c = search needs
 
 returns-9 : tie.Need-returns-9
-returns-9 c = search no-kind
+returns-9 c = search last-kind
+
+returns-10 : tie.Need-returns-10
+returns-10 c = search no-kind
 
 pub record-spec : {M : Type 1} → statement M
 record-spec =
@@ -123,6 +136,7 @@ record-spec =
     clear-requires
     answer-requires
     table-requires
+    vertices-merged-requires
     end-requires
     same-length
     same-length-2
@@ -146,5 +160,8 @@ record-spec =
     same-length-14
     returns-7
     same-length-15
+    same-length-16
     returns-8
-    returns-9)
+    same-length-17
+    returns-9
+    returns-10)
