@@ -1,14 +1,13 @@
 -- Two vertices side by side in a list: at a place, and at some place. Assumes nothing.
 use mathlib.Core.Path.{_≡_, refl, sym, ap, ap₂, _∙_}
-use mathlib.Core.Bool.{Bool, true, false, _||_}
+use mathlib.Core.Bool.{Bool, true, false, _&&_, _||_}
 use mathlib.Core.List.{List, [], _∷_}
 use Prim.Native.Nat.{ℕ, _+_, _≤_, _<_}
 use lib.Dec.{eqb}
 use lib.ListN.{length, drop}
-use borrow.Author.Tests.{eq-eqb, ne-eqb}
 use Rattle.lists.specs.Tests.{_and_}
 use Rattle.lists.specs.Lists.{any}
-use Rattle.lists.proofs.Cases.{on-same, and-false-left, or-right, or-false}
+use Rattle.lists.proofs.Cases.{or-right, or-false}
 use Rattle.layout.specs.Layout.{limit, membersAt, hyperedgeAt}
 use Rattle.layout.specs.Steps.{Step, stepsOf, isStep, makesStep}
 use Rattle.lookups.specs.State.{stepAt}
@@ -16,37 +15,16 @@ use Rattle.lookups.proofs.Places.{steps-more, steps-end}
 use Rattle.edits.specs.Results.{sideBySide}
 use Rattle.merge_vertices.specs.Places.{stepOf, joins}
 
-or-itself : (a : Bool) → (a || a) ≡ a
-or-itself true = refl
-or-itself false = refl
+-- ---- one place: the code compared x and y with v and w
 
--- ---- one place: the code compared x with v, then with w
+and-is : (a b : Bool) → (a && b) ≡ (a and b)
+unfolding _and_
+and-is true b = refl
+and-is false b = refl
 
-module _ (x y v w : ℕ) where
-  first-not : (x ≡ v → ⊥) → isStep v w (stepOf x y) ≡ false
-  unfolding isStep
-  first-not ne = and-false-left _ _ (ne-eqb x v ne)
-
-  first-is : x ≡ v → isStep v w (stepOf x y) ≡ eqb y w
-  unfolding isStep _and_
-  first-is e = rw (eq-eqb x v e)
-
--- where v and w are one vertex, the two orders are one
-module _ (x y v w : ℕ) where
-  pub joins-first : x ≡ v → eqb y w ≡ joins v w (stepOf x y)
-  unfolding joins
-  joins-first e = on-same x w
-      (λ q. sym (ap₂ _||_ (first-is x y v w e) (first-is x y w v q ∙ ap (eqb y) (sym e ∙ q)) ∙ or-itself (eqb y w)))
-      (λ ne. sym (ap₂ _||_ (first-is x y v w e) (first-not x y w v ne) ∙ or-false (eqb y w)))
-
-  module _ (ne : x ≡ v → ⊥) where
-    pub joins-second : x ≡ w → eqb y v ≡ joins v w (stepOf x y)
-    unfolding joins
-    joins-second e = sym (ap₂ _||_ (first-not x y v w ne) (first-is x y w v e))
-
-    pub joins-not : (x ≡ w → ⊥) → false ≡ joins v w (stepOf x y)
-    unfolding joins
-    joins-not q = sym (ap₂ _||_ (first-not x y v w ne) (first-not x y w v q))
+pub joins-by : (x y v w : ℕ) → ((eqb x v && eqb y w) || (eqb x w && eqb y v)) ≡ joins v w (stepOf x y)
+unfolding joins isStep
+joins-by x y v w = ap₂ _||_ (and-is (eqb x v) (eqb y w)) (and-is (eqb x w) (eqb y v))
 
 -- ---- a loop over i along the steps of ms: it passed at a place so far, or it passes at one that is left
 

@@ -17,17 +17,11 @@ use layout::HyperedgeIndex;
 use layout::VertexIndex;
 use rename_vertex::rename_vertex;
 
-// Whether the step x to y leads from v to w or from w to v.
+// Whether the step x to y leads from v to w or from w to v. All four are compared, so that there is no branch.
 fn beside(x: u32, y: u32, v: u32, w: u32) -> bool
     ensures { λ r. ⌜ r ≡ joins v w (stepOf x y) ⌝ }
 {
-    if x == v {
-        return y == w;
-    }
-    if x == w {
-        return y == v;
-    }
-    false
+    (x == v) & (y == w) | (x == w) & (y == v)
 }
 
 // Whether v and w stand side by side in a list. No place is skipped, so that the compiler can take several at a time.
