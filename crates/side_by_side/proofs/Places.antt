@@ -53,14 +53,14 @@ none-beside v w (x ∷ y ∷ ms) e =
     (ap₂ _||_ (and-false-right (eqb x v) (eqb y w) (not-true _ (and-left _ _ rest))) (and-false-left (eqb x w) (eqb y v) (not-true _ (and-left _ _ e))))
     (none-beside v w (y ∷ ms) rest)
 
--- ms is what `members_formed` gave, r what `lacks` said of it
-module _ (v w : ℕ) (ws : List ℕ) (j : ℕ) (ms : List ℕ) (em : ms ≡ membersAt limit ws j) (r : Bool) (er : r ≡ all (otherThan itself w) ms) where
+-- for `search`: ms is what `members_formed` gave, r what `lacks` said of it, n what `places_beside` counted
+module _ (v w : ℕ) (ws : List ℕ) (j : ℕ) (ms : List ℕ) (em : ms ≡ membersAt limit ws j) where
   beside-some : any (joins v w) (stepsOf ms) ≡ sideBySide v w (hyperedgeAt limit ws j)
   unfolding sideBySide makesStep
   beside-some = ap (λ (l : List ℕ). any (joins v w) (stepsOf l)) em ∙ either-some v w (stepsOf (membersAt limit ws j))
 
-  pub beside-none : r ≡ true → false ≡ sideBySide v w (hyperedgeAt limit ws j)
-  beside-none h = sym (none-beside v w ms (sym er ∙ h)) ∙ beside-some
+  pub beside-none : (r : Bool) → r ≡ all (otherThan itself w) ms → r ≡ true → false ≡ sideBySide v w (hyperedgeAt limit ws j)
+  beside-none r er h = sym (none-beside v w ms (sym er ∙ h)) ∙ beside-some
 
   pub beside-counted : (n : ℕ) → n ≡ places (joins v w) ms → not (eqb n 0) ≡ sideBySide v w (hyperedgeAt limit ws j)
   unfolding places

@@ -4,7 +4,7 @@ use Rattle.side_by_side.proofs.beside.Statement.{statement}
 use Rattle.side_by_side.proofs.beside.Tie as tie
 
 returns : tie.Need-returns
-returns c = joins-by _ _ _ _
+returns c = search joins-by
 
 pub beside-spec : {M : Type 1} → statement M
 beside-spec = tie.close (tie.spec returns)

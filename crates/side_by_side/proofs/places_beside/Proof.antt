@@ -51,11 +51,11 @@ loop-less c = search needs
 
 loop-again : tie.Need-loop-again Inv-loop μ-loop
 loop-again c =
-    let b = c .before in let l = b .before .before .before in let h = l .loop-test .taken in (
+    let b = c .before in let k = b .before .before .before .before .loop .inv .1 in (
       omega arith,
       ⊎-elim
-          (λ q. counted-yes (l .before .loop .inv .1) h (sym (b .beside .ensures) ∙ q .0 .taken) (q .1))
-          (λ q. counted-no (l .before .loop .inv .1) h (sym (b .beside .ensures) ∙ q .0 .left) (q .1))
+          (λ q. counted-yes k (omega arith) (sym (b .beside .ensures) ∙ q .0 .taken) (q .1))
+          (λ q. counted-no k (omega arith) (sym (b .beside .ensures) ∙ q .0 .left) (q .1))
           (c .if1 .came),
     )
 
