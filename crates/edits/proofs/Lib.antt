@@ -16,4 +16,5 @@ pub mod Copied
 pub mod Laid
 pub mod Dropped
 pub mod OthersKept
+pub mod Rewritten
 pub mod Stripped

@@ -1,76 +1,28 @@
 -- A record written without v, record after record; the words that are left are those of the stripped table. Assumes nothing.
-use mathlib.Core.Path.{_≡_, refl, sym, ap, ap₂, _∙_}
+use mathlib.Core.Path.{_≡_, ap, _∙_}
 use mathlib.Core.Bool.{Bool, true, false, cond}
-use mathlib.Core.List.{List, [], _∷_, _++_, map, append-assoc, append-nil}
-use Prim.Native.Nat.{ℕ, suc, _+_, _*_, _-_, _≤_, _<_}
-use native.Mathlib.Nat.{mul-le-mul-right, suc-mul}
-use native.Mathlib.Numerals.{add-one, add-two}
+use mathlib.Core.List.{List, [], _∷_, _++_, map}
+use Prim.Native.Nat.{ℕ, _+_, _-_, _≤_, _<_}
+use native.Mathlib.Numerals.{add-one}
 use native.Mathlib.Omega.{arith}
 use lib.Dec.{ltb}
 use borrow.Author.Tests.{lt-ltb, le-ltb}
-use lib.ListN.{length, getD, set, take, drop, replicate, length-append, length-replicate, drop-of-length-le}
-use lib.Seq.{paste, sets-eq, take-paste, drop-paste, length-paste, take-all, take-take, take-append-le, take-at, drop-at, drop-drop, getD-drop, length-take-le}
+use lib.ListN.{length, getD, set, take, drop, replicate}
+use lib.Seq.{paste}
 use Rattle.lists.specs.Tests.{bit}
-use Rattle.lists.specs.Lists.{filter, otherThan, tab, flat, pad, itself}
+use Rattle.lists.specs.Lists.{filter, otherThan, tab, pad, itself}
 use Rattle.lists.proofs.Kept.{filter-length}
 use Rattle.lists.proofs.Cases.{on, not-none}
-use Rattle.lists.proofs.Tab.{tab-suc, length-tab}
+use Rattle.lists.proofs.Tab.{tab-suc}
 use Rattle.lists.proofs.Maps.{map-snoc}
 use Rattle.lists.proofs.Filter.{filter-snoc}
-use Rattle.lists.proofs.Flat.{flat-snoc, length-pad}
 use Rattle.layout.specs.Content.{Hyperedge}
-use Rattle.layout.specs.Layout.{limit, hyperedgeLimit, recordSize, hyperedgesAt, size, hyperedgeWord, hyperedgeCount, countAt, membersAt, hyperedgeAt, hyperedgeWords, read, words}
+use Rattle.layout.specs.Layout.{limit, hyperedgeLimit, recordSize, size, hyperedgeWord, hyperedgeCount, countAt, membersAt, hyperedgeAt, hyperedgeWords, read, words}
 use Rattle.layout.specs.Inner.{Formed}
 use Rattle.layout.proofs.Read.{members-le}
-use Rattle.layout.proofs.Record.{hyperedge-moved}
-use Rattle.layout.proofs.Words.{words-read}
 use Rattle.edits.specs.Edits.{without, hasMembers}
 use Rattle.edits.specs.Removing.{otherWords, stripped, stripVertex, Stripped}
-use Rattle.edits.proofs.Laid.{with-hyperedges}
-
--- ---- one record: F and its padding are stored behind the three words of its head
-
--- two pastes, one right behind the other
-paste-paste : (d : List ℕ) (p : ℕ) (x y : List ℕ) (i j : ℕ) → length x ≡ i → length y ≡ j → p ≤ length d → paste (paste d p x i) (p + i) y j ≡ paste d p (x ++ y) (i + j)
-paste-paste d p x y i j ex ey h =
-    let le : i ≤ length x = omega arith in
-    ap₂ (λ (l r : List ℕ). l ++ take j y ++ r) (take-paste d p x i h le)
-    (sym (drop-drop j (p + i) (paste d p x i)) ∙ ap (drop j) (drop-paste d p x i h le) ∙ drop-drop j (p + i) d ∙ ap (λ (n : ℕ). drop n d) (let e : p + i + j ≡ p + (i + j) = omega arith in e))
-    ∙ ap (λ (r : List ℕ). r ++ drop (p + (i + j)) d)
-    (append-assoc (take p d) (take i x) (take j y)
-    ∙ ap (λ (r : List ℕ). take p d ++ r)
-    (ap₂ _++_ (take-all i x (omega arith)) (take-all j y (omega arith)) ∙ sym (take-all (i + j) (x ++ y) (rw (length-append x y) (omega arith)))))
-
--- three words stored right before a paste
-head-paste : (d : List ℕ) (a n x w c : ℕ) (m : List ℕ) → length m ≡ n → a + (3 + n) ≤ length d
-    → set (set (set (paste d (a + 3) m n) a x) (a + 1) w) (a + 2) c ≡ paste d a (x ∷ w ∷ c ∷ m) (3 + n)
-head-paste d a n x w c m em h =
-    let le : n ≤ length m = omega arith in
-    let l3 : length (take (a + 3) d) ≡ a + 3 = length-take-le (a + 3) d (omega arith) in
-    let len : length (paste d (a + 3) m n) ≡ length d = length-paste d (a + 3) m n (omega arith) le in
-    ap₂ (λ (i j : ℕ). set (set (set (paste d (a + 3) m n) a x) i w) j c) (add-one a) (add-two a)
-    ∙ sets-eq (x ∷ w ∷ c ∷ []) (paste d (a + 3) m n) a (omega arith)
-    ∙ ap₂ (λ (l r : List ℕ). l ++ (x ∷ w ∷ c ∷ []) ++ r)
-    (ap (take a) (append-assoc (take (a + 3) d) (take n m) (drop (a + 3 + n) d)) ∙ take-append-le a (take (a + 3) d) (take n m ++ drop (a + 3 + n) d) (omega arith) ∙ take-take a (a + 3) d (omega arith))
-    (ap (drop (a + 3)) (append-assoc (take (a + 3) d) (take n m) (drop (a + 3 + n) d)) ∙ drop-at (take (a + 3) d) (take n m ++ drop (a + 3 + n) d) (a + 3) l3)
-    ∙ sym (append-assoc (take a d ++ (x ∷ w ∷ c ∷ [])) (take n m) (drop (a + 3 + n) d))
-    ∙ ap₂ (λ (l : List ℕ) (i : ℕ). l ++ drop i d)
-    (append-assoc (take a d) (x ∷ w ∷ c ∷ []) (take n m)
-    ∙ ap (λ (l : List ℕ). take a d ++ l) (ap (λ (l : List ℕ). x ∷ w ∷ c ∷ l) (take-all n m (omega arith)) ∙ sym (take-all (3 + n) (x ∷ w ∷ c ∷ m) (omega arith))))
-    (let e : a + 3 + n ≡ a + (3 + n) = omega arith in e)
-
--- d₂ after the members, d₃ after the padding, d₄ after the head
-pub record-stored : (L : ℕ) (d F : List ℕ) (a c x w : ℕ) (d₂ d₃ d₄ : List ℕ) → a + (3 + L) ≤ length d → c ≡ length F → c ≤ L
-    → d₂ ≡ paste d (a + 3) F c → d₃ ≡ paste d₂ (a + 3 + c) (replicate (L - c) 0) (L - c) → d₄ ≡ set (set (set d₃ a x) (a + 1) w) (a + 2) c
-    → d₄ ≡ paste d a (x ∷ w ∷ length F ∷ pad L F) (3 + L)
-record-stored L d F a c x w d₂ d₃ d₄ h ec hc e₂ e₃ e₄ =
-    let f : c + (L - c) ≡ L = omega arith in
-    let body : d₃ ≡ paste d (a + 3) (pad L F) L =
-    e₃ ∙ ap (λ (s : List ℕ). paste s (a + 3 + c) (replicate (L - c) 0) (L - c)) e₂
-    ∙ paste-paste d (a + 3) F (replicate (L - c) 0) c (L - c) (sym ec) (length-replicate (L - c) 0) (omega arith)
-    ∙ ap₂ (λ (i j : ℕ). paste d (a + 3) (F ++ replicate (L - i) 0) j) ec f in
-    e₄ ∙ ap₂ (λ (s : List ℕ) (i : ℕ). set (set (set s a x) (a + 1) w) (a + 2) i) body ec
-    ∙ head-paste d a L x w (length F) (pad L F) (length-pad L F (omega arith)) h
+use Rattle.edits.proofs.Rewritten.{record-stored, rewritten-none, record-same, rewritten-more, rewritten-skip, rewritten-done}
 
 -- what `strip_record` does, from what its callees did
 pub record-stripped : (v : ℕ) (d : List ℕ) (j k n c : ℕ) (d₂ d₃ d₄ : List ℕ) → length d ≡ size limit → j < hyperedgeLimit → k ≤ j → countAt limit d j ≤ limit → n ≡ countAt limit d j → c ≤ n
@@ -101,118 +53,41 @@ stripped-snoc : (v : ℕ) (es : List Hyperedge) (e : Hyperedge) → stripped v (
 unfolding stripped
 stripped-snoc v es e = ap (filter hasMembers) (map-snoc (without v) es e) ∙ filter-snoc hasMembers (map (without v) es) (without v e)
 
-take-before : (d : List ℕ) (p : ℕ) (x : List ℕ) (n : ℕ) → p ≤ length d → take p (paste d p x n) ≡ take p d
-take-before d p x n h = ap (take p) (append-assoc (take p d) (take n x) (drop (p + n) d)) ∙ take-at (take p d) (take n x ++ drop (p + n) d) p (length-take-le p d h)
-
 pub stripped-none : (L v : ℕ) (ws : List ℕ) → Stripped L v ws 0 0 ws
-unfolding stripped filter tab flat
-stripped-none L v ws = record {
-  same = refl;
-  behind = omega arith;
-  count = refl;
-  front = ap (λ (n : ℕ). take n ws) (let e : hyperedgeWord L 0 ≡ hyperedgesAt = omega arith in e) ∙ sym (append-nil (take hyperedgesAt ws));
-  ahead = refl;
-}
+unfolding stripped filter tab
+stripped-none L v ws = rewritten-none L ws
 
 module _ (L v : ℕ) (ws : List ℕ) (j k : ℕ) (s : List ℕ) (f : Formed L ws) (st : Stripped L v ws j k s) (h : j < hyperedgeCount ws) where
-  -- the record that is left, and its words
+  -- the record that is left
   left : Hyperedge
   left = without v (hyperedgeAt L ws j)
 
-  left-length : length (hyperedgeWords L left) ≡ recordSize L
+  left-le : length (left .members) ≤ L
   unfolding left without
-  left-length = omega (arith, length-pad L (left .members) (omega (arith, filter-length (otherThan itself v) (membersAt L ws j), members-le L ws f j h)))
+  left-le = omega (arith, filter-length (otherThan itself v) (membersAt L ws j), members-le L ws f j h)
 
-  inside : (i : ℕ) → i ≤ j → hyperedgeWord L i + recordSize L ≤ length s
-  inside i l =
-      omega (arith, st .same, f .shape .sized, mul-le-mul-right (recordSize L) (let q : suc i ≤ hyperedgeCount ws = omega arith in q), mul-le-mul-right (recordSize L) (f .shape .hyperedges-le), suc-mul i (recordSize L))
-
-  record-same : hyperedgeAt L s j ≡ hyperedgeAt L ws j
-  record-same = hyperedge-moved L s ws j j (inside j (omega arith)) (omega (arith, inside j (omega arith), st .same))
-      (λ r l. sym (getD-drop (hyperedgeWord L j) s r 0) ∙ ap (λ (x : List ℕ). getD x r 0) (st .ahead) ∙ getD-drop (hyperedgeWord L j) ws r 0) (f .counts j h)
-
-  pub count-same : countAt L s j ≤ L
-  count-same = omega (arith, f .counts j h, sym (getD-drop (hyperedgeWord L j) s 2 0) ∙ ap (λ (x : List ℕ). getD x 2 0) (st .ahead) ∙ getD-drop (hyperedgeWord L j) ws 2 0)
-
-  module _ (s′ : List ℕ) (e : s′ ≡ paste s (hyperedgeWord L k) (hyperedgeWords L left) (recordSize L)) where
-    at-k : hyperedgeWord L k + recordSize L ≤ length s
-    at-k = inside k (st .behind)
-
-    kept-length : length s′ ≡ length ws
-    kept-length = ap length e ∙ length-paste s (hyperedgeWord L k) (hyperedgeWords L left) (recordSize L) at-k (omega (arith, left-length)) ∙ st .same
-
-    still-ahead : drop (hyperedgeWord L (j + 1)) s′ ≡ drop (hyperedgeWord L (j + 1)) ws
-    still-ahead =
-        let b : ℕ = hyperedgeWord L k + recordSize L in
-        let g : hyperedgeWord L j + recordSize L ≡ hyperedgeWord L (j + 1) = omega (arith, ap (λ (n : ℕ). n * recordSize L) (add-one j), suc-mul j (recordSize L)) in
-        let q : b + (hyperedgeWord L (j + 1) - b) ≡ hyperedgeWord L (j + 1) = omega (arith, mul-le-mul-right (recordSize L) (st .behind)) in
-        ap (λ (n : ℕ). drop n s′) (sym q) ∙ sym (drop-drop (hyperedgeWord L (j + 1) - b) b s′)
-        ∙ ap (drop (hyperedgeWord L (j + 1) - b)) (ap (drop b) e ∙ drop-paste s (hyperedgeWord L k) (hyperedgeWords L left) (recordSize L) (omega (arith, at-k)) (omega (arith, left-length)))
-        ∙ drop-drop (hyperedgeWord L (j + 1) - b) b s ∙ ap (λ (n : ℕ). drop n s) (q ∙ sym g)
-        ∙ sym (drop-drop (recordSize L) (hyperedgeWord L j) s) ∙ ap (drop (recordSize L)) (st .ahead) ∙ drop-drop (recordSize L) (hyperedgeWord L j) ws ∙ ap (λ (n : ℕ). drop n ws) g
-
-    whole : (b : Bool) → hasMembers left ≡ b → stripped v (tab (hyperedgeAt L ws) (j + 1)) ≡ cond b (stripped v (tab (hyperedgeAt L ws) j) ++ (left ∷ [])) (stripped v (tab (hyperedgeAt L ws) j))
-    unfolding left
-    whole b q =
-        ap (stripped v) (ap (tab (hyperedgeAt L ws)) (add-one j) ∙ tab-suc (hyperedgeAt L ws) j) ∙ stripped-snoc v (tab (hyperedgeAt L ws) j) (hyperedgeAt L ws j)
-        ∙ ap (λ (b : Bool). cond b (stripped v (tab (hyperedgeAt L ws) j) ++ (without v (hyperedgeAt L ws j) ∷ [])) (stripped v (tab (hyperedgeAt L ws) j))) q
-
-    -- a list with members is left
-    some-left : hasMembers left ≡ true → Stripped L v ws (j + 1) (k + 1) s′
-    some-left q =
-        let es : List Hyperedge = stripped v (tab (hyperedgeAt L ws) j) in
-        let g : hyperedgeWord L (k + 1) ≡ hyperedgeWord L k + recordSize L = omega (arith, ap (λ (n : ℕ). n * recordSize L) (add-one k), suc-mul k (recordSize L)) in
-        record {
-          same = kept-length;
-          behind = omega (arith, st .behind);
-          count = sym (ap length (whole true q) ∙ length-append es (left ∷ []) ∙ omega (arith, st .count));
-          front = ap₂ take g e ∙ take-paste s (hyperedgeWord L k) (hyperedgeWords L left) (recordSize L) (omega (arith, at-k)) (omega (arith, left-length))
-              ∙ ap₂ _++_ (st .front) (take-all (recordSize L) (hyperedgeWords L left) (omega (arith, left-length)))
-              ∙ append-assoc (take hyperedgesAt ws) (flat (hyperedgeWords L) es) (hyperedgeWords L left)
-              ∙ ap (λ (r : List ℕ). take hyperedgesAt ws ++ r) (sym (ap (flat (hyperedgeWords L)) (whole true q) ∙ flat-snoc (hyperedgeWords L) es left));
-          ahead = still-ahead;
-        }
-
-    -- the list held v alone
-    none-left : hasMembers left ≡ false → Stripped L v ws (j + 1) k s′
-    none-left q =
-        record {
-          same = kept-length;
-          behind = omega (arith, st .behind);
-          count = st .count ∙ sym (ap length (whole false q));
-          front = ap (take (hyperedgeWord L k)) e ∙ take-before s (hyperedgeWord L k) (hyperedgeWords L left) (recordSize L) (omega (arith, at-k)) ∙ st .front
-              ∙ ap (λ (es : List Hyperedge). take hyperedgesAt ws ++ flat (hyperedgeWords L) es) (sym (whole false q));
-          ahead = still-ahead;
-        }
+  whole : (b : Bool) → hasMembers left ≡ b → stripped v (tab (hyperedgeAt L ws) (j + 1)) ≡ cond b (stripped v (tab (hyperedgeAt L ws) j) ++ (left ∷ [])) (stripped v (tab (hyperedgeAt L ws) j))
+  unfolding left
+  whole b q =
+      ap (stripped v) (ap (tab (hyperedgeAt L ws)) (add-one j) ∙ tab-suc (hyperedgeAt L ws) j) ∙ stripped-snoc v (tab (hyperedgeAt L ws) j) (hyperedgeAt L ws j)
+      ∙ ap (λ (b : Bool). cond b (stripped v (tab (hyperedgeAt L ws) j) ++ (without v (hyperedgeAt L ws j) ∷ [])) (stripped v (tab (hyperedgeAt L ws) j))) q
 
   -- a turn of the loop: c members were left, and k′ is the next place
   pub stripped-more : (s′ : List ℕ) (c k′ : ℕ) → c ≡ length (without v (hyperedgeAt L s j) .members) → s′ ≡ paste s (hyperedgeWord L k) (hyperedgeWords L (without v (hyperedgeAt L s j))) (recordSize L)
       → k′ ≡ k + bit (ltb 0 c) → Stripped L v ws (j + 1) k′ s′
   unfolding left hasMembers
   stripped-more s′ c k′ ec e ek =
-      let e′ : s′ ≡ paste s (hyperedgeWord L k) (hyperedgeWords L left) (recordSize L) = e ∙ ap (λ (x : Hyperedge). paste s (hyperedgeWord L k) (hyperedgeWords L (without v x)) (recordSize L)) record-same in
-      let cl : c ≡ length (left .members) = ec ∙ ap (λ (x : Hyperedge). length (without v x .members)) record-same in
+      let es : List Hyperedge = stripped v (tab (hyperedgeAt L ws) j) in
+      let same : hyperedgeAt L s j ≡ hyperedgeAt L ws j = record-same L ws es j k s f st h in
+      let e′ : s′ ≡ paste s (hyperedgeWord L k) (hyperedgeWords L left) (recordSize L) = e ∙ ap (λ (x : Hyperedge). paste s (hyperedgeWord L k) (hyperedgeWords L (without v x)) (recordSize L)) same in
+      let cl : c ≡ length (left .members) = ec ∙ ap (λ (x : Hyperedge). length (without v x .members)) same in
       on (hasMembers left)
-      (λ q. rw (let z : k′ ≡ k + 1 = ek ∙ ap (λ (b : Bool). k + bit b) (ap (ltb 0) cl ∙ q) in z) (some-left s′ e′ q))
-      (λ q. rw (let z : k′ ≡ k = ek ∙ ap (λ (b : Bool). k + bit b) (ap (ltb 0) cl ∙ q) ∙ omega arith in z) (none-left s′ e′ q))
-
--- ---- what is behind the records that are left is cleared, and their count stored
+      (λ q. rw (let z : k′ ≡ k + 1 = ek ∙ ap (λ (b : Bool). k + bit b) (ap (ltb 0) cl ∙ q) in z, whole true q) (rewritten-more L ws es j k s f st h left left-le s′ e′))
+      (λ q. rw (let z : k′ ≡ k = ek ∙ ap (λ (b : Bool). k + bit b) (ap (ltb 0) cl ∙ q) ∙ omega arith in z, whole false q) (rewritten-skip L ws es j k s f st h left left-le s′ e′))
 
 pub strip-done : (L v : ℕ) (ws : List ℕ) (m k : ℕ) (s s₂ s₃ : List ℕ) → Formed L ws → m ≡ hyperedgeCount ws → Stripped L v ws m k s
     → s₂ ≡ paste s (hyperedgeWord L k) (replicate (size L - hyperedgeWord L k) 0) (size L - hyperedgeWord L k) → s₃ ≡ set s₂ 3 k → s₃ ≡ words L (stripVertex v (read L ws))
 unfolding stripVertex
 strip-done L v ws m k s s₂ s₃ f em st e₂ e₃ =
-    let es : List Hyperedge = stripped v (tab (hyperedgeAt L ws) m) in
-    let flats : List ℕ = flat (hyperedgeWords L) es in
-    let n : ℕ = size L - hyperedgeWord L k in
-    let hw : hyperedgeWord L k ≤ length s = omega (arith, st .same, f .shape .sized, mul-le-mul-right (recordSize L) (let q : k ≤ hyperedgeLimit = omega (arith, st .behind, f .shape .hyperedges-le) in q)) in
-    let len : length flats ≡ k * recordSize L =
-    omega (arith, length-append (take hyperedgesAt ws) flats, ap length (st .front), length-take-le (hyperedgeWord L k) s hw, length-take-le hyperedgesAt ws (omega (arith, f .shape .sized))) in
-    let z : n ≡ hyperedgeLimit * recordSize L - length flats = omega arith in
-    let end : drop (hyperedgeWord L k + n) s ≡ [] = drop-of-length-le s {i = hyperedgeWord L k + n} (omega (arith, st .same, f .shape .sized)) in
-    let area : s₂ ≡ take hyperedgesAt ws ++ pad (hyperedgeLimit * recordSize L) flats =
-    e₂ ∙ ap₂ _++_ (ap₂ _++_ (st .front) (take-all n (replicate n 0) (rw length-replicate (omega arith)))) end ∙ append-nil _
-    ∙ append-assoc (take hyperedgesAt ws) flats (replicate n 0) ∙ ap (λ (i : ℕ). take hyperedgesAt ws ++ (flats ++ replicate i 0)) z in
-    e₃ ∙ ap₂ (λ (l : List ℕ) (i : ℕ). set l 3 i) (area ∙ ap (λ (l : List ℕ). take hyperedgesAt l ++ pad (hyperedgeLimit * recordSize L) flats) (sym (words-read L ws (f .shape)))) (st .count)
-    ∙ with-hyperedges L (read L ws) (rw length-tab (f .shape .vertices-le)) es
+    rewritten-done L ws (stripped v (tab (hyperedgeAt L ws) m)) m k s s₂ s₃ f em st e₂ e₃
     ∙ ap (λ (i : ℕ). words L (record { nextVertex = read L ws .nextVertex; nextHyperedge = read L ws .nextHyperedge; vertices = read L ws .vertices; hyperedges = stripped v (tab (hyperedgeAt L ws) i) })) em

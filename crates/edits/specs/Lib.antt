@@ -2,4 +2,5 @@ pub mod Edits
 pub mod Results
 pub mod Records
 pub mod Stages
+pub mod Rewriting
 pub mod Removing

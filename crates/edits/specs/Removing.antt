@@ -1,13 +1,13 @@
 -- The steps of removing a vertex: the lists without it, and the records without its own. Assumes nothing.
-use mathlib.Core.Path.{_≡_}
 use mathlib.Core.List.{List, map, _++_}
-use Prim.Native.Nat.{ℕ, _*_, _-_, _≤_}
-use lib.ListN.{length, set, take, drop}
-use Rattle.lists.specs.Lists.{filter, otherThan, tab, flat, itself}
+use Prim.Native.Nat.{ℕ, _*_, _-_}
+use lib.ListN.{set, take, drop}
+use Rattle.lists.specs.Lists.{filter, otherThan, tab, itself}
 use Rattle.lists.specs.Inner.{shifted}
 use Rattle.layout.specs.Content.{Hyperedge, Table}
-use Rattle.layout.specs.Layout.{vertexLimit, vertexSize, verticesAt, hyperedgesAt, hyperedgeWord, hyperedgeAt, hyperedgeWords}
+use Rattle.layout.specs.Layout.{vertexLimit, vertexSize, verticesAt, hyperedgesAt, hyperedgeAt}
 use Rattle.edits.specs.Edits.{without, hasMembers}
+use Rattle.edits.specs.Rewriting.{Rewritten}
 
 -- the words other than v
 unfoldable pub otherWords : ℕ → List ℕ → List ℕ
@@ -26,13 +26,9 @@ stripVertex v t = record {
   hyperedges = stripped v (t .hyperedges);
 }
 
--- after j records: k of them are left, written one after the other from the first record's place on, and record j and those behind it are as they were
-pub record Stripped (L v : ℕ) (ws : List ℕ) (j k : ℕ) (s : List ℕ) : Type 0 where
-  pub same : length s ≡ length ws
-  pub behind : k ≤ j
-  pub count : k ≡ length (stripped v (tab (hyperedgeAt L ws) j))
-  pub front : take (hyperedgeWord L k) s ≡ take hyperedgesAt ws ++ flat (hyperedgeWords L) (stripped v (tab (hyperedgeAt L ws) j))
-  pub ahead : drop (hyperedgeWord L j) s ≡ drop (hyperedgeWord L j) ws
+-- after j records: those that are left, k of them, are written one after the other
+abbrev pub Stripped : ℕ → ℕ → List ℕ → ℕ → ℕ → List ℕ → Type 0
+Stripped L v ws j k s = Rewritten L ws (stripped v (tab (hyperedgeAt L ws) j)) j k s
 
 -- record i of the n vertex records taken out, and one counted less
 abbrev pub vertexTakenOut : ℕ → ℕ → List ℕ → List ℕ

@@ -6,7 +6,8 @@ use native.Mathlib.Omega.{arith}
 use borrow.Author.Needs.{needs}
 use Rattle.layout.specs.Layout.{limit}
 use Rattle.edits.specs.Removing.{Stripped}
-use Rattle.edits.proofs.Stripped.{stripped-none, count-same, stripped-more}
+use Rattle.edits.proofs.Rewritten.{count-same}
+use Rattle.edits.proofs.Stripped.{stripped-none, stripped-more}
 use Rattle.strip_vertex.proofs.strip_records.Statement.{statement}
 use Rattle.strip_vertex.proofs.strip_records.Tie as tie
 
@@ -27,7 +28,7 @@ strip-record-requires c κs =
         search needs,
         (
           search needs,
-          count-same limit (s .args .v) (now (s .args .t)) (l .loop .j) (l .loop .k) (l .loop .t) (s .pre .0) (l .loop .inv .1) (omega arith),
+          count-same limit (now (s .args .t)) _ (l .loop .j) (l .loop .k) (l .loop .t) (s .pre .0) (l .loop .inv .1) (omega arith),
         ),
       ),
     )
