@@ -126,7 +126,12 @@ fn merge(n: u32, list: &[u32], v: u32, w: u32) {
     }
     let (ours, rust) = both.replies(&Edit::MergeVertices(v, w));
     println!("vertices below {n}, {list:?}; merge {w} into {v}");
-    println!("  Rust answer {} {}, {}", rust.number, rust.detail, held(&oracle::words(&both.graph)));
+    println!(
+        "  Rust answer {} {}, {}",
+        rust.number,
+        rust.detail,
+        held(&oracle::words(&both.graph))
+    );
     println!("  here answer {} {}, {}", ours.number, ours.detail, held(&both.table));
 }
 
