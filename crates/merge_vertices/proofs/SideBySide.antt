@@ -1,11 +1,10 @@
 -- Two vertices side by side in a list: at a place, and at some place. Assumes nothing.
-use mathlib.Core.Path.{_≡_, refl, sym, ap, _∙_}
-use mathlib.Core.Bool.{Bool, true, false, _||_}
+use mathlib.Core.Path.{_≡_, refl, sym, ap, ap₂, _∙_}
+use mathlib.Core.Bool.{Bool, true, false, _&&_, _||_}
 use mathlib.Core.List.{List, [], _∷_}
 use Prim.Native.Nat.{ℕ, _+_, _≤_, _<_}
 use lib.Dec.{eqb}
 use lib.ListN.{length, drop}
-use borrow.Author.Tests.{eq-eqb, ne-eqb}
 use Rattle.lists.specs.Tests.{_and_}
 use Rattle.lists.specs.Lists.{any}
 use Rattle.lists.proofs.Cases.{or-right, or-false}
@@ -16,26 +15,16 @@ use Rattle.lookups.proofs.Places.{steps-more, steps-end}
 use Rattle.edits.specs.Results.{sideBySide}
 use Rattle.merge_vertices.specs.Places.{stepOf, joins}
 
--- ---- one place: the code compared x with v, and then y with w
+-- ---- one place: the code compared x and y with v and w
 
-module _ (x y v w : ℕ) where
-  pub step-not : (x ≡ v → ⊥) → false ≡ isStep v w (stepOf x y)
-  unfolding isStep _and_
-  step-not ne = rw (ne-eqb x v ne)
+and-is : (a b : Bool) → (a && b) ≡ (a and b)
+unfolding _and_
+and-is true b = refl
+and-is false b = refl
 
-  pub step-by : x ≡ v → eqb y w ≡ isStep v w (stepOf x y)
-  unfolding isStep _and_
-  step-by e = rw (eq-eqb x v e)
-
--- a and b are what `is_step` said of the one order and of the other
-module _ (v w : ℕ) (s : Step) (a : Bool) (ea : a ≡ isStep v w s) where
-  pub joins-first : a ≡ true → true ≡ joins v w s
-  unfolding joins
-  joins-first h = rw (← ea, h)
-
-  pub joins-second : a ≡ false → (b : Bool) → b ≡ isStep w v s → b ≡ joins v w s
-  unfolding joins
-  joins-second h b eb = rw (← ea, h) eb
+pub joins-by : (x y v w : ℕ) → ((eqb x v && eqb y w) || (eqb x w && eqb y v)) ≡ joins v w (stepOf x y)
+unfolding joins isStep
+joins-by x y v w = ap₂ _||_ (and-is (eqb x v) (eqb y w)) (and-is (eqb x w) (eqb y v))
 
 -- ---- a loop over i along the steps of ms: it passed at a place so far, or it passes at one that is left
 

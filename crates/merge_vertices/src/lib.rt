@@ -4,7 +4,7 @@ ghost use Prim.Native.Nat.{_<_};
 ghost use Rattle.lists.specs.Lists.{any};
 ghost use Rattle.layout.specs.Content.{liveVertices, position};
 ghost use Rattle.layout.specs.Layout.{limit, hyperedgeCount, hyperedgeAt, readHyperedges, read};
-ghost use Rattle.layout.specs.Steps.{stepsOf, isStep};
+ghost use Rattle.layout.specs.Steps.{stepsOf};
 ghost use Rattle.layout.specs.Inner.{Formed};
 ghost use Rattle.layout.specs.Answers.{onFormed, result};
 ghost use Rattle.edits.specs.Results.{sideBySide, mergeResult};
@@ -17,24 +17,11 @@ use layout::HyperedgeIndex;
 use layout::VertexIndex;
 use rename_vertex::rename_vertex;
 
-// Whether the step x to y is the step v to w.
-fn is_step(x: u32, y: u32, v: u32, w: u32) -> bool
-    ensures { λ r. ⌜ r ≡ isStep v w (stepOf x y) ⌝ }
-{
-    if x != v {
-        return false;
-    }
-    y == w
-}
-
-// Whether the step x to y leads from v to w or from w to v.
+// Whether the step x to y leads from v to w or from w to v. All four are compared, so that there is no branch.
 fn beside(x: u32, y: u32, v: u32, w: u32) -> bool
     ensures { λ r. ⌜ r ≡ joins v w (stepOf x y) ⌝ }
 {
-    if is_step(x, y, v, w) {
-        return true;
-    }
-    is_step(x, y, w, v)
+    (x == v) & (y == w) | (x == w) & (y == v)
 }
 
 // Whether v and w stand side by side in a list. No place is skipped, so that the compiler can take several at a time.
