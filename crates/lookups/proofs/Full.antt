@@ -426,7 +426,7 @@ module _ {live : List ℕ} {whole : ℕ → List ℕ} {counts : List ℕ} (t : T
 
 -- ---- the words of the live vertices are the full listing
 
-any-places : {A : Type 0} (p : A → Bool) (xs : List A) → any p xs ≡ not (eqb (length (filter p xs)) 0)
+pub any-places : {A : Type 0} (p : A → Bool) (xs : List A) → any p xs ≡ not (eqb (length (filter p xs)) 0)
 unfolding any filter
 any-places p [] = refl
 any-places p (x ∷ xs) = on (p x)

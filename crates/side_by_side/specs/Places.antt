@@ -1,4 +1,4 @@
--- What the inner functions of a merge are stated with: a step between the two vertices. Assumes nothing.
+-- A step between two vertices, in either order. Assumes nothing.
 use mathlib.Core.Bool.{Bool, _||_}
 use Prim.Native.Nat.{ℕ}
 use Rattle.layout.specs.Steps.{Step, isStep}

@@ -1,4 +1,4 @@
--- `merge_vertices::find_side_by_side` meets its contract: what is left of the search is the whole of it. Assumes nothing.
+-- `side_by_side::find_side_by_side` meets its contract: what is left of the search is the whole of it. Assumes nothing.
 use mathlib.Core.Path.{_≡_, refl}
 use Prim.Native.Nat.{_≤_, _-_}
 use lib.ListN.{drop}
@@ -7,8 +7,8 @@ use Rattle.edits.specs.Results.{sideBySide}
 use Rattle.edits.specs.Stages.{firstPassing, firstPassingFrom}
 use Rattle.edits.proofs.Passing.{passing-on, passing-here, passing-none}
 use borrow.Author.Needs.{needs}
-use Rattle.merge_vertices.proofs.find_side_by_side.Statement.{statement}
-use Rattle.merge_vertices.proofs.find_side_by_side.Tie as tie
+use Rattle.side_by_side.proofs.find_side_by_side.Statement.{statement}
+use Rattle.side_by_side.proofs.find_side_by_side.Tie as tie
 
 abbrev Inv-loop : tie.InvT-loop
 Inv-loop t v w m j₀ j = (j ≤ m) × (m ≡ hyperedgeCount t) × (firstPassingFrom (sideBySide v w) j (drop j (readHyperedges limit t)) ≡ firstPassing (sideBySide v w) (readHyperedges limit t))

@@ -1,22 +1,23 @@
--- `merge_vertices::side_by_side` meets its contract. Assumes nothing.
+-- `side_by_side::places_beside` meets its contract. Assumes nothing.
+use mathlib.Core.Path.{sym, _∙_}
 use mathlib.Core.Logic.{⊎-elim}
 use Prim.Native.Nat.{_≤_, _-_}
 use native.Mathlib.Omega.{arith}
 use lib.ListN.{length}
 use borrow.Author.Needs.{needs}
-use Rattle.merge_vertices.specs.Places.{joins}
-use Rattle.merge_vertices.proofs.SideBySide.{SomeSoFar, some-none, some-here, some-on, some-end}
-use Rattle.merge_vertices.proofs.side_by_side.Statement.{statement}
-use Rattle.merge_vertices.proofs.side_by_side.Tie as tie
+use Rattle.side_by_side.specs.Places.{joins}
+use Rattle.lookups.proofs.Places.{Counted, counted-none, counted-yes, counted-no, counted-end}
+use Rattle.side_by_side.proofs.places_beside.Statement.{statement}
+use Rattle.side_by_side.proofs.places_beside.Tie as tie
 
 abbrev Inv-loop : tie.InvT-loop
-Inv-loop ms v w found₀ i₀ found i = (i ≤ length ms) × SomeSoFar (joins v w) ms i found
+Inv-loop ms v w n₀ i₀ n i = (i ≤ length ms) × Counted (joins v w) ms i n
 
 abbrev μ-loop : tie.MeasureT-loop
-μ-loop ms v w found₀ i₀ found i = length ms - i
+μ-loop ms v w n₀ i₀ n i = length ms - i
 
 loop-holds : tie.Need-loop-holds Inv-loop μ-loop
-loop-holds c = (search needs, some-none _ _)
+loop-holds c = (search needs, counted-none _ _)
 
 add-loop : tie.Need-add-loop Inv-loop μ-loop
 add-loop c = search needs
@@ -39,6 +40,9 @@ shared-slice-read-beside-2 c = search needs
 beside-requires : tie.Need-beside-requires Inv-loop μ-loop
 beside-requires c κs = search needs
 
+add-n : tie.Need-add-n Inv-loop μ-loop
+add-n c = search needs
+
 add-i : tie.Need-add-i Inv-loop μ-loop
 add-i c = search needs
 
@@ -47,19 +51,19 @@ loop-less c = search needs
 
 loop-again : tie.Need-loop-again Inv-loop μ-loop
 loop-again c =
-    let b = c .before in let l = b .before .before .before in let h = l .loop-test .taken in (
+    let b = c .before in let k = b .before .before .before .before .loop .inv .1 in (
       omega arith,
       ⊎-elim
-          (λ q. some-here (l .before .loop .inv .1) h (b .beside .ensures) (q .0 .taken) (q .1))
-          (λ q. some-on (l .before .loop .inv .1) h (b .beside .ensures) (q .0 .left) (q .1))
+          (λ q. counted-yes k (omega arith) (sym (b .beside .ensures) ∙ q .0 .taken) (q .1))
+          (λ q. counted-no k (omega arith) (sym (b .beside .ensures) ∙ q .0 .left) (q .1))
           (c .if1 .came),
     )
 
 returns : tie.Need-returns Inv-loop μ-loop
-returns c = search some-end
+returns c = search counted-end
 
-pub side-by-side-spec : {M : Type 1} → statement M
-side-by-side-spec =
+pub places-beside-spec : {M : Type 1} → statement M
+places-beside-spec =
     tie.close
     (tie.spec
     Inv-loop
@@ -72,6 +76,7 @@ side-by-side-spec =
     mul-beside-2
     shared-slice-read-beside-2
     beside-requires
+    add-n
     add-i
     loop-less
     loop-again
