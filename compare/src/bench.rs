@@ -178,7 +178,9 @@ fn of_kind(kind: Kind) -> Vec<(&'static str, Medians)> {
     numbers.sort_unstable();
     let (x, y) = (numbers[numbers.len() / 2], numbers[numbers.len() - 1]);
     let (v, w) = (oracle::vertex(x), oracle::vertex(y));
-    let beside = [g.get_adjacent_vertices_from(v), g.get_adjacent_vertices_to(v)].map(|list| list.expect("a list")).concat();
+    let beside = [g.get_adjacent_vertices_from(v), g.get_adjacent_vertices_to(v)]
+        .map(|list| list.expect("a list"))
+        .concat();
     let apart = |z: &&u32| **z != x && !beside.contains(&oracle::vertex(**z));
     let z = *numbers.iter().rev().find(apart).expect("a vertex that stands apart");
     let list = Draw::new(2).members(&numbers[..numbers.len() - 1], kind.members, false);

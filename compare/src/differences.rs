@@ -125,8 +125,13 @@ fn merge(n: u32, list: &[u32], v: u32, w: u32) {
         both.replies(&edit);
     }
     let (ours, rust) = both.replies(&Edit::MergeVertices(v, w));
-    println!("{n} vertices, {list:?}; merge {w} into {v}");
-    println!("  Rust answer {} {}, {}", rust.number, rust.detail, held(&oracle::words(&both.graph)));
+    println!("vertices below {n}, {list:?}; merge {w} into {v}");
+    println!(
+        "  Rust answer {} {}, {}",
+        rust.number,
+        rust.detail,
+        held(&oracle::words(&both.graph))
+    );
     println!("  here answer {} {}, {}", ours.number, ours.detail, held(&both.table));
 }
 

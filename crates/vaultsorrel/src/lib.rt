@@ -2,7 +2,7 @@
 ghost use mathlib.Core.Path.{_≡_};
 ghost use mathlib.Core.List.{[]};
 ghost use Rattle.layout.specs.Answers.{onFormed};
-ghost use Rattle.edits.specs.Results.{addVertexResult, addHyperedgeResult, updateResult, removeVertexResult, removeHyperedgeResult, clearResult, emptyResult};
+ghost use Rattle.edits.specs.Results.{addVertexResult, addHyperedgeResult, updateResult, removeVertexResult, mergeResult, removeHyperedgeResult, clearResult, emptyResult};
 ghost use Rattle.vaultsorrel.specs.Replies.{replied};
 ghost use Rattle.lookups.specs.Results.{relatedResult, fullAdjacentResult, degreeResult, connectingResult, intersectionsResult, weighingResult, fullHyperedgesResult, containsResult, vertexIndexResult};
 ghost use Rattle.lookups.specs.declared.Direction.the-variants.{From, To};
@@ -57,6 +57,14 @@ pub extern "C" fn vs_remove_vertex(t: &mut [u32], v: VertexIndex) -> Reply
     ensures { λ r. ⌜ replied r (now (t .exit)) ≡ onFormed (now (t .entry)) (now (t .entry)) (removeVertexResult (v .0) (now (t .entry))) ⌝ }
 {
     layout::reply_of(remove_vertex::remove_vertex(t, v))
+}
+
+// Merges w into v: each w in every list becomes v, and w is removed.
+#[no_mangle]
+pub extern "C" fn vs_merge_vertices(t: &mut [u32], v: VertexIndex, w: VertexIndex) -> Reply
+    ensures { λ r. ⌜ replied r (now (t .exit)) ≡ onFormed (now (t .entry)) (now (t .entry)) (mergeResult (v .0) (w .0) (now (t .entry))) ⌝ }
+{
+    layout::reply_of(merge_vertices::merge_vertices(t, v, w))
 }
 
 #[no_mangle]
