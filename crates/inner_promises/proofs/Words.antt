@@ -35,6 +35,8 @@ use Rattle.rename_vertex.proofs.rename_vertex.Kinds as rename-vertex
 use Rattle.rename_vertex.proofs.rename_vertex.Reads as rename-vertex-reads
 use Rattle.strip_vertex.proofs.strip_vertex.Kinds as strip-vertex
 use Rattle.strip_vertex.proofs.strip_vertex.Reads as strip-vertex-reads
+use Rattle.side_by_side.proofs.find_side_by_side.Kinds as find-side-by-side
+use Rattle.side_by_side.proofs.find_side_by_side.Reads as find-side-by-side-reads
 use Rattle.member_lists.proofs.judge_members.Kinds as judge-members
 use Rattle.member_lists.proofs.judge_members.Reads as judge-members-reads
 use Rattle.member_lists.proofs.same_members.Kinds as same-members
@@ -81,6 +83,9 @@ pub rename-vertex-agrees : Agrees 1 rename-vertex.ps rename-vertex.r rename-vert
 rename-vertex-agrees κs args a b x y p q = (refl, p ∙ sym q)
 
 -- ---- a list of members
+
+pub find-side-by-side-agrees : Agrees 1 find-side-by-side.ps find-side-by-side.r find-side-by-side-reads.Post (λ _ _. [])
+find-side-by-side-agrees κs args a b x y p q = (p ∙ sym q, refl)
 
 -- a refusal changes no lent word, and what is fine leaves any result: which of the two was given, and by what answer, shows in the results
 or-else-one : (i j : Judgement) → ((r : Result) → orElse i [] r ≡ orElse j [] r) → i ≡ j

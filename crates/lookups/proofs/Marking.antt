@@ -11,7 +11,7 @@ use lib.Seq.{drop-cons}
 use borrow.Author.Tests.{eq-eqb, ne-eqb}
 use Rattle.lists.specs.Tests.{_and_}
 use Rattle.lists.specs.Lists.{any, memb, filter}
-use Rattle.lists.proofs.Cases.{on-same, or-false, and-true, and-false-left, and-false-right, eqb-comm}
+use Rattle.lists.proofs.Cases.{on-same, or-right, or-false, and-true, and-false-left, and-false-right, eqb-comm}
 use Rattle.layout.specs.declared.Found.{Found}
 use Rattle.layout.specs.declared.Found.the-variants.{At, Nothing}
 use Rattle.layout.specs.Content.{liveVertices, position}
@@ -103,16 +103,23 @@ drop-more ms i h = rw (add-one, drop-cons ms i 0 h)
 pub drop-none : (ms : List ℕ) (i : ℕ) → length ms ≤ i → drop i ms ≡ []
 drop-none ms i h = drop-of-length-le ms h
 
--- a search for v
-module _ (v : ℕ) (ms : List ℕ) (i : ℕ) (whole : Bool) (inv : memb v (drop i ms) ≡ whole) where
-  pub memb-on : i < length ms → (getD ms i 0 ≡ v → ⊥) → memb v (drop (i + 1) ms) ≡ whole
-  memb-on h ne = rw (drop-more ms i h, ne-eqb v (getD ms i 0) (λ q. ne (sym q))) at inv
+-- a search for v that looks at every place: v was met, or it stands in what is left
+pub record Met (v : ℕ) (ms : List ℕ) (i : ℕ) (found : Bool) : Type 0 where
+  pub whole : (found || memb v (drop i ms)) ≡ memb v ms
 
-  pub memb-here : i < length ms → getD ms i 0 ≡ v → true ≡ whole
-  memb-here h e = rw (drop-more ms i h, eq-eqb v (getD ms i 0) (sym e)) at inv
+pub met-none : (v : ℕ) (ms : List ℕ) → Met v ms 0 false
+met-none v ms = record { whole = refl }
 
-  pub memb-end : length ms ≤ i → false ≡ whole
-  memb-end h = rw (drop-none ms i h) at inv
+module _ {v : ℕ} {ms : List ℕ} {i : ℕ} {found : Bool} (m : Met v ms i found) where
+  module _ {more : Bool} (h : i < length ms) where
+    pub met-here : getD ms i 0 ≡ v → more ≡ true → Met v ms (i + 1) more
+    met-here e q = rw q (record { whole = sym (or-right found true refl) ∙ (rw (drop-more ms i h, eq-eqb v (getD ms i 0) (sym e)) at (m .whole)) })
+
+    pub met-on : (getD ms i 0 ≡ v → ⊥) → more ≡ found → Met v ms (i + 1) more
+    met-on ne q = rw q (record { whole = rw (drop-more ms i h, ne-eqb v (getD ms i 0) (λ p. ne (sym p))) at (m .whole) })
+
+  pub met-end : length ms ≤ i → found ≡ memb v ms
+  met-end h = sym (or-false found) ∙ (rw (drop-none ms i h) at (m .whole))
 
 module _ (v m : ℕ) where
   pub other-yes : (m ≡ v → ⊥) → (y : ℕ) → eqb y m ≡ isOther v y m

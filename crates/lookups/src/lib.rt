@@ -50,15 +50,17 @@ pub fn ends_at(ms: &[u32], i: usize, dir: Direction) -> Ends
     }
 }
 
+// Whether v stands in a list. No word is skipped, so that the compiler can take several at a time.
 pub fn holds(ms: &[u32], v: u32) -> bool
     ensures { λ r. ⌜ r ≡ memb v (now (ms .entry)) ⌝ }
 {
+    let mut found = false;
     let mut i = 0;
     while i < ms.len() {
         if ms[i] == v {
-            return true;
+            found = true;
         }
         i += 1;
     }
-    false
+    found
 }

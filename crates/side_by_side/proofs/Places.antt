@@ -6,8 +6,8 @@ use Prim.Native.Nat.{ℕ}
 use lib.Dec.{eqb}
 use borrow.Author.Tests.{not-true}
 use Rattle.lists.specs.Tests.{_and_}
-use Rattle.lists.specs.Lists.{any, all, otherThan, itself}
-use Rattle.lists.proofs.Cases.{and-left, and-right, and-false-left, and-false-right}
+use Rattle.lists.specs.Lists.{any, memb}
+use Rattle.lists.proofs.Cases.{eqb-comm, and-false-left, and-false-right, or-false-left, or-false-right}
 use Rattle.layout.specs.Layout.{limit, membersAt, hyperedgeAt}
 use Rattle.layout.specs.Steps.{Step, stepsOf, isStep, makesStep}
 use Rattle.lookups.specs.Lookups.{places}
@@ -43,24 +43,26 @@ either-some v w (s ∷ ss) =
     ∙ or-swap (isStep v w s) (isStep w v s) (any (isStep v w) ss) (any (isStep w v) ss)
 
 -- where w is nowhere, nothing stands beside it
-none-beside : (v w : ℕ) (ms : List ℕ) → all (otherThan itself w) ms ≡ true → any (joins v w) (stepsOf ms) ≡ false
-unfolding any all stepsOf joins isStep otherThan
+none-beside : (v w : ℕ) (ms : List ℕ) → memb w ms ≡ false → any (joins v w) (stepsOf ms) ≡ false
+unfolding any stepsOf joins isStep
 none-beside v w [] e = refl
 none-beside v w (x ∷ []) e = refl
 none-beside v w (x ∷ y ∷ ms) e =
-    let rest = and-right _ _ e in
+    let rest = or-false-right (eqb w x) (memb w (y ∷ ms)) e in
+    let not-x : eqb x w ≡ false = eqb-comm x w ∙ or-false-left (eqb w x) (memb w (y ∷ ms)) e in
+    let not-y : eqb y w ≡ false = eqb-comm y w ∙ or-false-left (eqb w y) (memb w ms) rest in
     ap₂ _||_
-    (ap₂ _||_ (and-false-right (eqb x v) (eqb y w) (not-true _ (and-left _ _ rest))) (and-false-left (eqb x w) (eqb y v) (not-true _ (and-left _ _ e))))
+    (ap₂ _||_ (and-false-right (eqb x v) (eqb y w) not-y) (and-false-left (eqb x w) (eqb y v) not-x))
     (none-beside v w (y ∷ ms) rest)
 
--- for `search`: ms is what `members_formed` gave, r what `lacks` said of it, n what `places_beside` counted
+-- for `search`: ms is what `members_formed` gave, r what `holds` said of it, n what `places_beside` counted
 module _ (v w : ℕ) (ws : List ℕ) (j : ℕ) (ms : List ℕ) (em : ms ≡ membersAt limit ws j) where
   beside-some : any (joins v w) (stepsOf ms) ≡ sideBySide v w (hyperedgeAt limit ws j)
   unfolding sideBySide makesStep
   beside-some = ap (λ (l : List ℕ). any (joins v w) (stepsOf l)) em ∙ either-some v w (stepsOf (membersAt limit ws j))
 
-  pub beside-none : (r : Bool) → r ≡ all (otherThan itself w) ms → r ≡ true → false ≡ sideBySide v w (hyperedgeAt limit ws j)
-  beside-none r er h = sym (none-beside v w ms (sym er ∙ h)) ∙ beside-some
+  pub beside-none : (r : Bool) → r ≡ memb w ms → not r ≡ true → false ≡ sideBySide v w (hyperedgeAt limit ws j)
+  beside-none r er h = sym (none-beside v w ms (sym er ∙ not-true r h)) ∙ beside-some
 
   pub beside-counted : (n : ℕ) → n ≡ places (joins v w) ms → not (eqb n 0) ≡ sideBySide v w (hyperedgeAt limit ws j)
   unfolding places

@@ -1,7 +1,6 @@
 // Two vertices that stand side by side in a list.
 ghost use mathlib.Core.Path.{_≡_};
 ghost use Prim.Native.Nat.{_<_};
-ghost use Rattle.lists.specs.Lists.{all, otherThan, itself};
 ghost use Rattle.layout.specs.Layout.{limit, hyperedgeCount, hyperedgeAt, readHyperedges};
 ghost use Rattle.layout.specs.Inner.{Formed};
 ghost use Rattle.lookups.specs.Lookups.{places};
@@ -9,21 +8,6 @@ ghost use Rattle.edits.specs.Results.{sideBySide};
 ghost use Rattle.edits.specs.Stages.{firstPassing};
 ghost use Rattle.side_by_side.specs.Places.{stepOf, joins};
 use layout::Found;
-
-// Whether w is nowhere in the list. No word is skipped, so that the compiler can take several at a time.
-fn lacks(ms: &[u32], w: u32) -> bool
-    ensures { λ r. ⌜ r ≡ all (otherThan itself w) (now (ms .entry)) ⌝ }
-{
-    let mut ok = true;
-    let mut i = 0;
-    while i < ms.len() {
-        if ms[i] == w {
-            ok = false;
-        }
-        i += 1;
-    }
-    ok
-}
 
 // Whether the step x to y leads from v to w or from w to v. All four are compared, so that there is no branch.
 fn beside(x: u32, y: u32, v: u32, w: u32) -> bool
@@ -54,7 +38,7 @@ fn beside_in(t: &[u32], j: usize, v: u32, w: u32) -> bool
     ensures { λ r. ⌜ r ≡ sideBySide v w (hyperedgeAt limit (now (t .entry)) j) ⌝ }
 {
     let ms = layout::members_formed(t, j);
-    if lacks(ms, w) {
+    if !lookups::holds(ms, w) {
         return false;
     }
     places_beside(ms, v, w) != 0

@@ -7,8 +7,8 @@ use Rattle.side_by_side.proofs.beside_in.Tie as tie
 members-formed-requires : tie.Need-members-formed-requires
 members-formed-requires c κs = search needs
 
-lacks-requires : tie.Need-lacks-requires
-lacks-requires c κs = search needs
+holds-requires : tie.Need-holds-requires
+holds-requires c κs = search needs
 
 returns : tie.Need-returns
 returns c = search beside-none
@@ -22,4 +22,4 @@ returns-2 c = search beside-counted
 pub beside-in-spec : {M : Type 1} → statement M
 beside-in-spec =
     tie.close
-    (tie.spec members-formed-requires lacks-requires returns places-beside-requires returns-2)
+    (tie.spec members-formed-requires holds-requires returns places-beside-requires returns-2)
