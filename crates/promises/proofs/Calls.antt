@@ -12,6 +12,7 @@ use Rattle.layout.specs.declared.Answer.the-variants.{Done, BadText}
 use Rattle.layout.specs.Content.{Table, liveVertices, liveHyperedges}
 use Rattle.layout.specs.Layout.{vertexLimit, hyperedgeLimit, limit, size, words, read}
 use Rattle.layout.specs.Answers.{Result, result, onFormed, onLive, listed, vertexMissing, hyperedgeMissing, onLiveVertices}
+use Rattle.edits.specs.Edits.{mergeVertices}
 use Rattle.edits.specs.Results.{addVertexResult, addHyperedgeResult, updateResult, removeVertexResult, mergeResult, removeHyperedgeResult, clearResult, emptyResult}
 use Rattle.lookups.specs.declared.Direction.{Direction}
 use Rattle.lookups.specs.declared.Relation.{Relation}
@@ -69,7 +70,8 @@ pub merge-judged : (v w : ℕ) (ws : List ℕ) → Judged (mergeGrounds v w ws) 
 unfolding mergeResult
 merge-judged v w ws =
     let t = read limit ws in
-    let thirteen = other-judged (apart-judged refl v w (t .hyperedges)) v w in
+    let fourteen = apart-judged ws (result (Done 0) (words limit (mergeVertices v w t))) refl v w (t .hyperedges) in
+    let thirteen = other-judged fourteen v w in
     formed-judged ws (mergeResult v w ws) (live-judged thirteen (liveVertices t) vertexMissing (v ∷ w ∷ []))
 
 pub remove-hyperedge-judged : (x : ℕ) (ws : List ℕ) → Judged (hyperedgeGrounds x ws) ws (onFormed ws ws (removeHyperedgeResult x ws))

@@ -102,11 +102,11 @@ module _ {gs : List Ground} {lent : List ℕ} {r : Result} (j : Judged gs lent r
   unfolding onSeveral
   several-judged xs = on-ground gs lent r j (tooFew xs) (isFew xs) refl
 
-pub apart-judged : {lent : List ℕ} {r : Result} → r .number ≡ 0 → (v w : ℕ) (es : List Hyperedge) → Judged (map (besideIn v w) es) lent (onApart v w es lent r)
+pub apart-judged : (lent : List ℕ) (r : Result) → r .number ≡ 0 → (v w : ℕ) (es : List Hyperedge) → Judged (map (besideIn v w) es) lent (onApart v w es lent r)
 unfolding onFirst
-apart-judged d v w [] = none-refused d
-apart-judged {lent} {r} d v w (e ∷ es) =
-    on-ground (map (besideIn v w) es) lent (onApart v w es lent r) (apart-judged d v w es) (besideIn v w e) (sideBySide v w e) refl
+apart-judged lent r d v w [] = none-refused d
+apart-judged lent r d v w (e ∷ es) =
+    on-ground (map (besideIn v w) es) lent (onApart v w es lent r) (apart-judged lent r d v w es) (besideIn v w e) (sideBySide v w e) refl
 
 pub formed-judged : (ws : List ℕ) (f : Table → Result) {lent : List ℕ} {gs : List Ground} → Judged gs lent (f (read limit ws)) → Judged (unformed ws ∷ gs) lent (onFormed ws lent f)
 unfolding onFormed
