@@ -351,7 +351,7 @@ static void throw_still_formed(bool all, unsigned turn) {
     lend_list(held.hyperedge, 2);
     lent.x = held.n > 0 ? held.vertex[turn % (unsigned)held.n] : 0;
     lent.y = held.n > 0 ? held.vertex[turn / 2 % (unsigned)held.n] : 0;
-    throw_at((int)(turn % COUNT_OF_FUNCTIONS), turn % 2 ? MOST_WORDS : 16);
+    throw_at((int)(turn % COUNT_OF_FUNCTIONS), turn / COUNT_OF_FUNCTIONS % 2 ? MOST_WORDS : 16);
 }
 
 /* Each word in turn, changed to several values. */
