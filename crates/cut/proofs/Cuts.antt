@@ -15,12 +15,11 @@ use Rattle.lists.proofs.Kept.{memb-filter}
 use Rattle.walks.specs.Walks.{Reach, here, step}
 use Rattle.layout.specs.Content.{Table, liveVertices, isLive, valid}
 use Rattle.layout.specs.Layout.{limit, vertexCount, read, words}
-use Rattle.layout.specs.WellFormed.{holdable, wellFormed}
+use Rattle.layout.specs.WellFormed.{holdable}
 use Rattle.layout.specs.Inner.{Formed}
 use Rattle.layout.specs.Answers.{Result, listed}
 use Rattle.layout.proofs.Read.{live-length, live-ascends, formed-of}
-use Rattle.layout.proofs.Shape.{shaped-by}
-use Rattle.layout.proofs.Back.{read-words, words-formed, read-holdable}
+use Rattle.layout.proofs.Back.{read-words, words-formed, formed-holdable}
 use Rattle.graph.specs.Reach.{matrix, Symmetric}
 use Rattle.graph.proofs.Bfs.{bfs-sound, bfs-complete}
 use Rattle.edits.specs.Edits.{removeVertex}
@@ -157,8 +156,7 @@ module _ {ws : List ℕ} (f : Formed limit ws) {m : List ℕ} (w : Holds (togeth
   matrix-symmetric i j li lj = test-ext (matrix m i j) (matrix m j i) (turned-mark i j li lj) (turned-mark j i lj li)
 
   held : holdable limit (read limit ws) ≡ true
-  unfolding wellFormed
-  held = read-holdable limit ws (and-both _ _ (shaped-by limit ws (f .shape)) (f .content))
+  held = formed-holdable limit ws f
 
   module _ (k : ℕ) (lk : k < vertexCount ws) where
     abbrev v : ℕ

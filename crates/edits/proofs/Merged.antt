@@ -1,17 +1,16 @@
 -- Merging one vertex into another: the content that is left, and that a table can hold it. Assumes nothing.
 use mathlib.Core.Path.{_≡_, sym, ap, _∙_}
-use mathlib.Core.Bool.{Bool, true, false, not}
+use mathlib.Core.Bool.{true, false, not}
 use mathlib.Core.List.{List, map, map-map}
 use Prim.Native.Nat.{ℕ}
 use lib.Dec.{ltb, leb}
-use lib.ListN.{length}
 use borrow.Author.Tests.{eq-eqb, ne-eqb}
 use Rattle.lists.specs.Tests.{_and_}
 use Rattle.lists.specs.Lists.{all, any, filter, otherThan, itself}
 use Rattle.lists.proofs.Cases.{on-same, and-left}
 use Rattle.lists.proofs.Maps.{map-length}
 use Rattle.lists.proofs.Kept.{map-ext, all-always, all-then, all-map, filter-whole}
-use Rattle.layout.specs.Content.{Hyperedge, Table, vertexNumber, hyperedgeNumber, liveVertices, liveHyperedges, isLive, numbered, membersLive}
+use Rattle.layout.specs.Content.{Hyperedge, Table, vertexNumber, hyperedgeNumber, liveVertices, isLive, membersLive}
 use Rattle.layout.specs.WellFormed.{countFits, holdable}
 use Rattle.layout.proofs.Holdable.{Holdable, holdable-of, holdable-by}
 use Rattle.edits.specs.Edits.{without, hasMembers, removeVertex, readAs, renamed, renameVertex, mergeVertices}

@@ -20,7 +20,7 @@ use Rattle.lists.proofs.Flat.{zero-end, flat-length, flat-at, tab-getD, length-
 use Rattle.layout.specs.Content.{Hyperedge, noVertex, noHyperedge, Table}
 use Rattle.layout.specs.Layout.{vertexLimit, hyperedgeLimit, vertexSize, recordSize, verticesAt, hyperedgesAt, size, vertexWord, hyperedgeWord, hyperedgeCount, vertexAt, countAt, membersAt, hyperedgeAt, readVertices, readHyperedges, read, vertexWords, hyperedgeWords, words}
 use Rattle.layout.specs.WellFormed.{recordShaped, unusedVertices, unusedHyperedges, wellFormed, countFits, holdable}
-use Rattle.layout.specs.Inner.{Shaped}
+use Rattle.layout.specs.Inner.{Shaped, Formed}
 use Rattle.layout.proofs.Shape.{shaped-of, shaped-by, count-le, count-pos}
 use Rattle.layout.proofs.Words.{words-read}
 use Rattle.layout.proofs.Holdable.{Holdable, holdable-of, members-le, members-pos}
@@ -209,6 +209,11 @@ read-holdable L ws e =
     rw (getD-tab (hyperedgeAt L ws) (hyperedgeCount ws) j noHyperedge h, len)
     (and-both _ _ (lt-ltb 0 _ (count-pos L ws _ j (s .records) h)) (le-leb _ L (count-le L ws _ j (s .records) h)))))
     (and-right _ _ e)))
+
+-- the same, from the parts of the test
+pub formed-holdable : (L : ℕ) (ws : List ℕ) → Formed L ws → holdable L (read L ws) ≡ true
+unfolding wellFormed
+formed-holdable L ws f = read-holdable L ws (and-both _ _ (shaped-by L ws (f .shape)) (f .content))
 
 -- a well-formed list of words is the words of exactly one content that a table can hold
 pub exactly-one : (L : ℕ) (ws : List ℕ) → wellFormed L ws ≡ true

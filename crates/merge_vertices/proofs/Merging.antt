@@ -1,23 +1,19 @@
 -- What a merge answers and leaves, from what the code found. Assumes nothing.
 use mathlib.Core.Path.{_≡_, sym, ap, _∙_}
-use mathlib.Core.Bool.{true}
 use mathlib.Core.List.{List, map}
 use Prim.Native.Nat.{ℕ, _<_}
 use lib.ListN.{getD}
 use borrow.Author.Tests.{eq-eqb, ne-eqb}
-use Rattle.lists.proofs.Cases.{and-both}
 use Rattle.layout.specs.declared.Found.{Found}
 use Rattle.layout.specs.declared.Found.the-variants.{At, Nothing}
 use Rattle.layout.specs.declared.Answer.the-variants.{Done, SameVertex, SideBySide}
 use Rattle.layout.specs.Content.{liveVertices, position}
 use Rattle.layout.specs.Layout.{limit, hyperedgeLimit, hyperedgeWord, vertexCount, readHyperedges, read, words}
-use Rattle.layout.specs.WellFormed.{wellFormed, holdable}
 use Rattle.layout.specs.Inner.{Formed}
 use Rattle.layout.specs.Answers.{Result, result, onLive, vertexMissing}
-use Rattle.layout.proofs.Shape.{shaped-by}
 use Rattle.layout.proofs.Position.{found-live, missing-dead}
 use Rattle.layout.proofs.Read.{vertex-found}
-use Rattle.layout.proofs.Back.{read-holdable}
+use Rattle.layout.proofs.Back.{formed-holdable}
 use Rattle.layout.proofs.Answers.{on-missing, on-found}
 use Rattle.edits.specs.Edits.{renamed, renameVertex}
 use Rattle.edits.specs.Removing.{vertexTakenOut}
@@ -32,10 +28,6 @@ use Rattle.edits.proofs.Dropped.{vertex-dropped}
 pub merge-same : (v w : ℕ) (ws : List ℕ) → v ≡ w → result (SameVertex (record { 0 = v })) ws ≡ mergeLiveResult v w ws (read limit ws)
 unfolding mergeLiveResult onOther
 merge-same v w ws e = rw (eq-eqb v w e)
-
-held : (ws : List ℕ) → Formed limit ws → holdable limit (read limit ws) ≡ true
-unfolding wellFormed
-held ws f = read-holdable limit ws (and-both _ _ (shaped-by limit ws (f .shape)) (f .content))
 
 -- s is what `find_side_by_side` found
 module _ (v w : ℕ) (ws : List ℕ) (s : Found) (e : s ≡ firstPassing (sideBySide v w) (readHyperedges limit ws)) where
@@ -54,7 +46,7 @@ module _ (v w : ℕ) (ws : List ℕ) (s : Found) (e : s ≡ firstPassing (sideBy
     merge-done i n ws₁ ws₂ f p h en e₁ e₂ =
         rw (ne-eqb v w two)
         (ap (result (Done 0))
-        (e₂ ∙ vertex-dropped limit ws f w i n (map (renamed v w) (readHyperedges limit ws)) ws₁ p en e₁ ∙ sym (ap (words limit) (merge-is limit v w (read limit ws) (held ws f) two)))
+        (e₂ ∙ vertex-dropped limit ws f w i n (map (renamed v w) (readHyperedges limit ws)) ws₁ p en e₁ ∙ sym (ap (words limit) (merge-is limit v w (read limit ws) (formed-holdable limit ws f) two)))
         ∙ on-none-passing (sideBySide v w) ws s e sideBySideIn ws _ h)
 
 pub gone-below : (w : ℕ) (ws : List ℕ) (i n : ℕ) → position w (liveVertices (read limit ws)) ≡ At i → n ≡ vertexCount ws → i < n
