@@ -13,10 +13,11 @@ use Rattle.layout.specs.declared.Answer.the-variants.{Done, NoMembers, SameMemb
 use Rattle.layout.specs.Content.{Hyperedge, Table, isLive}
 use Rattle.layout.specs.Layout.{limit, vertexLimit, hyperedgeLimit, read, words}
 use Rattle.layout.specs.WellFormed.{wellFormed, holdable}
+use Rattle.layout.specs.Steps.{stepsOf, sameEnds, equalNeighbours}
 use Rattle.layout.specs.Answers.{number, Result, result, onFormed, onLive}
 use Rattle.layout.proofs.Back.{read-holdable}
 use Rattle.edits.specs.Edits.{addVertex, addHyperedge, updateHyperedge, mergeVertices}
-use Rattle.edits.specs.Results.{lastNumber, onSome, onShort, onRoom, onNumber, identical, onFirst, onChanged, membersOf, onOther, sideBySide, sideBySideIn, addVertexResult, addHyperedgeResult, updateResult, mergeResult}
+use Rattle.edits.specs.Results.{lastNumber, onSome, onShort, onRoom, onNumber, identical, onFirst, byNumber, twiceInARow, onUnequal, onChanged, membersOf, onOther, sideBySide, sideBySideIn, addVertexResult, addHyperedgeResult, updateResult, mergeResult}
 use Rattle.edits.proofs.AddHoldable.{add-vertex-holdable, add-hyperedge-holdable, update-holdable}
 use Rattle.edits.proofs.Merged.{Mergeable}
 
@@ -52,15 +53,21 @@ module _ (P : Result → Type 0) (ws : List ℕ) (refused : (a : Answer) → eqb
   unfolding onOther
   other-or v w f = on (eqb v w) (λ e. rw e (refused (SameVertex (record { 0 = v })) refl)) (λ e. rw e (f (eqb-false v w e)))
 
--- a hyperedge that passes the test gives the answer of its number, and the words are as they were
-first-or : (P : Result → Type 0) (ws : List ℕ) (r : Result) (p : Hyperedge → Bool) (answer : ℕ → Answer) (es : List Hyperedge)
-    → (any p es ≡ true → (x : ℕ) → P (result (answer x) ws)) → (any p es ≡ false → P r) → P (onFirst p answer es ws r)
+-- the first that passes the test gives its answer, and the words are as they were
+first-or : {A : Type 0} (P : Result → Type 0) (ws : List ℕ) (r : Result) (p : A → Bool) (answer : A → Answer) (xs : List A)
+    → (any p xs ≡ true → (x : A) → P (result (answer x) ws)) → (any p xs ≡ false → P r) → P (onFirst p answer xs ws r)
 unfolding onFirst any
 first-or P ws r p answer [] found f = f refl
-first-or P ws r p answer (e ∷ es) found f =
-    on (p e)
-    (λ q. rw q (found (rw q) (e .number)))
-    (λ q. rw q (first-or P ws r p answer es (λ h. found (or-right (p e) (any p es) h)) (λ h. f (rw (q, h)))))
+first-or P ws r p answer (x ∷ xs) found f =
+    on (p x)
+    (λ q. rw q (found (rw q) x))
+    (λ q. rw q (first-or P ws r p answer xs (λ h. found (or-right (p x) (any p xs) h)) (λ h. f (rw (q, h)))))
+
+-- 20, or the list has no equal neighbours
+unequal-or : (P : Result → Type 0) (ws : List ℕ) → ((a : Answer) → eqb (number a) 0 ≡ false → P (result a ws))
+    → (r : Result) (ms : List ℕ) → (equalNeighbours ms ≡ false → P r) → P (onUnequal ms ws r)
+unfolding equalNeighbours
+unequal-or P ws refused r ms f = first-or P ws r sameEnds twiceInARow (stepsOf ms) (λ h s. refused (twiceInARow s) refl) f
 
 -- ---- the calls: P holds of every refusal, and of what is done
 
@@ -81,28 +88,29 @@ module _ (P : Result → Type 0) (ws : List ℕ) (formed : wellFormed limit ws �
       (done (add-vertex-holdable limit w (read limit ws) held room))))
 
   pub add-hyperedge-goes : (ms : List ℕ) (w : ℕ)
-      → (any (identical ms w) (read limit ws .hyperedges) ≡ true → (x : ℕ) → P (result (Done x) ws))
-      → (any (identical ms w) (read limit ws .hyperedges) ≡ false → holdable limit (addHyperedge ms w (read limit ws)) ≡ true
+      → (equalNeighbours ms ≡ false → any (identical ms w) (read limit ws .hyperedges) ≡ true → (x : ℕ) → P (result (Done x) ws))
+      → (equalNeighbours ms ≡ false → any (identical ms w) (read limit ws .hyperedges) ≡ false → holdable limit (addHyperedge ms w (read limit ws)) ≡ true
       → P (result (Done (read limit ws .nextHyperedge)) (words limit (addHyperedge ms w (read limit ws)))))
       → P (onFormed ws ws (addHyperedgeResult ms w ws))
   unfolding addHyperedgeResult
   add-hyperedge-goes ms w found done =
       formed-or (addHyperedgeResult ms w ws) (some-or P ws refused _ ms w (λ pos. short-or P ws refused _ ms (λ le. live-or P ws refused _ _ _ (λ x. refl) ms (λ live.
-      first-or P ws _ (identical ms w) Done _ found (λ new. room-or P ws refused _ _ hyperedgeLimit (λ room. number-or P ws refused _ _
-      (done new (add-hyperedge-holdable limit ms (read limit ws) held pos le live w room))))))))
+      unequal-or P ws refused _ ms (λ unequal. first-or P ws _ (identical ms w) (byNumber Done) _ (λ h e. found unequal h (e .number)) (λ new.
+      room-or P ws refused _ _ hyperedgeLimit (λ room. number-or P ws refused _ _
+      (done unequal new (add-hyperedge-holdable limit ms (read limit ws) held pos le live w room)))))))))
 
   pub update-goes : (x : ℕ) (ms : List ℕ)
-      → (holdable limit (updateHyperedge x ms (read limit ws)) ≡ true → P (result (Done 0) (words limit (updateHyperedge x ms (read limit ws)))))
+      → (equalNeighbours ms ≡ false → holdable limit (updateHyperedge x ms (read limit ws)) ≡ true → P (result (Done 0) (words limit (updateHyperedge x ms (read limit ws)))))
       → P (onFormed ws ws (updateResult x ms ws))
   unfolding updateResult
   update-goes x ms done =
       formed-or (updateResult x ms ws) (some-or P ws refused _ ms x (λ pos. short-or P ws refused _ ms (λ le. live-or P ws refused _ _ _ (λ v. refl) ms (λ live.
-      live-or P ws refused _ _ _ (λ e. refl) (x ∷ []) (λ found. changed-or P ws refused _ x ms _
-      (done (update-holdable limit ms (read limit ws) held pos le live x)))))))
+      unequal-or P ws refused _ ms (λ unequal. live-or P ws refused _ _ _ (λ e. refl) (x ∷ []) (λ found. changed-or P ws refused _ x ms _
+      (done unequal (update-holdable limit ms (read limit ws) held pos le live x))))))))
 
   pub merge-goes : (v w : ℕ) → (Mergeable v w (read limit ws) → P (result (Done 0) (words limit (mergeVertices v w (read limit ws))))) → P (onFormed ws ws (mergeResult v w ws))
   unfolding mergeResult all
   merge-goes v w done =
       formed-or (mergeResult v w ws) (live-or P ws refused _ _ _ (λ x. refl) (v ∷ w ∷ []) (λ live. other-or P ws refused _ v w (λ two.
-      first-or P ws _ (sideBySide v w) sideBySideIn _ (λ found x. refused (sideBySideIn x) refl) (λ apart.
+      first-or P ws _ (sideBySide v w) (byNumber sideBySideIn) _ (λ found e. refused (sideBySideIn (e .number)) refl) (λ apart.
       done (record { kept-live = and-left _ _ live; gone-live = and-left _ _ (and-right _ _ live); two = two; apart = apart })))))

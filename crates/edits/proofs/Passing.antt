@@ -1,4 +1,4 @@
--- The first hyperedge that passes a test: searched for, and answered. Assumes nothing.
+-- The first of a list that passes a test: searched for, and answered. Assumes nothing.
 use mathlib.Core.Path.{_≡_, refl, sym, ap, _∙_}
 use mathlib.Core.Bool.{Bool, true, false}
 use mathlib.Core.List.{List, [], _∷_}
@@ -18,7 +18,7 @@ use Rattle.layout.specs.Content.{Hyperedge, noHyperedge}
 use Rattle.layout.specs.Layout.{limit, hyperedgeLimit, hyperedgeWord, hyperedgeCount, hyperedgeAt, readHyperedges}
 use Rattle.layout.specs.Inner.{Formed}
 use Rattle.layout.specs.Answers.{Result, result}
-use Rattle.edits.specs.Results.{onFirst}
+use Rattle.edits.specs.Results.{onFirst, byNumber}
 use Rattle.edits.specs.Stages.{firstPassingFrom, firstPassing}
 
 -- ---- a loop over j, with `drop j` of the hyperedges left; r is what the code found of hyperedge j
@@ -39,41 +39,49 @@ module _ (p : Hyperedge → Bool) (f : ℕ → Hyperedge) (n j : ℕ) (whole : F
 
 -- ---- what is answered
 
-module _ (p : Hyperedge → Bool) (answer : ℕ → Answer) (lent : List ℕ) (r : Result) where
-  from-passing : (k : ℕ) (es : List Hyperedge) (i : ℕ) → firstPassingFrom p k es ≡ At i
-      → (j : ℕ) × (i ≡ k + j) × (j < length es) × (result (answer (getD es j noHyperedge .number)) lent ≡ onFirst p answer es lent r)
+module _ {A : Type 0} (p : A → Bool) (answer : A → Answer) (lent : List ℕ) (r : Result) where
+  from-passing : (d : A) (k : ℕ) (xs : List A) (i : ℕ) → firstPassingFrom p k xs ≡ At i
+      → (j : ℕ) × (i ≡ k + j) × (j < length xs) × (result (answer (getD xs j d)) lent ≡ onFirst p answer xs lent r)
   unfolding firstPassingFrom onFirst
-  from-passing k [] i e = absurd (let z : _≡_ {A = ℕ} 0 1 = cc in omega arith)
-  from-passing k (h ∷ es) i e = on (p h)
-      (λ m. let f : At k ≡ At i = rw m at e in let g : k ≡ i = cc in (zero, omega arith, zero-lt-suc (length es), rw m))
-      (λ m. let q = from-passing (suc k) es i (rw m at e) in (suc (q .0), omega (arith, q .1), suc-le-suc (q .2), rw m (q .3)))
+  from-passing d k [] i e = absurd (let z : _≡_ {A = ℕ} 0 1 = cc in omega arith)
+  from-passing d k (x ∷ xs) i e = on (p x)
+      (λ m. let f : At k ≡ At i = rw m at e in let g : k ≡ i = cc in (zero, omega arith, zero-lt-suc (length xs), rw m))
+      (λ m. let q = from-passing d (suc k) xs i (rw m at e) in (suc (q .0), omega (arith, q .1), suc-le-suc (q .2), rw m (q .3)))
 
-  from-none : (k : ℕ) (es : List Hyperedge) → firstPassingFrom p k es ≡ Nothing → r ≡ onFirst p answer es lent r
+  from-none : (k : ℕ) (xs : List A) → firstPassingFrom p k xs ≡ Nothing → r ≡ onFirst p answer xs lent r
   unfolding firstPassingFrom onFirst
   from-none k [] e = refl
-  from-none k (h ∷ es) e = on (p h)
+  from-none k (x ∷ xs) e = on (p x)
       (λ m. absurd (let f : At k ≡ Nothing = rw m at e in let z : _≡_ {A = ℕ} 0 1 = cc in omega arith))
-      (λ m. rw m (from-none (suc k) es (rw m at e)))
+      (λ m. rw m (from-none (suc k) xs (rw m at e)))
+
+  -- the place that a search found, and what is answered there
+  pub on-first-passing : (d : A) (xs : List A) (i : ℕ) → firstPassing p xs ≡ At i
+      → (i < length xs) × (result (answer (getD xs i d)) lent ≡ onFirst p answer xs lent r)
+  unfolding firstPassing
+  on-first-passing d xs i e =
+      let q = from-passing d zero xs i e in let s : i ≡ q .0 = q .1 ∙ zero-add (q .0) in (rw s (q .2), rw s (q .3))
+
+  pub on-none-first : (xs : List A) → firstPassing p xs ≡ Nothing → r ≡ onFirst p answer xs lent r
+  unfolding firstPassing
+  on-none-first xs e = from-none zero xs e
 
 -- s is what a search of the table found
 module _ (p : Hyperedge → Bool) (ws : List ℕ) (s : Found) (e : s ≡ firstPassing p (readHyperedges limit ws)) where
   module _ (j : ℕ) (h : s ≡ At j) where
     found : (answer : ℕ → Answer) (lent : List ℕ) (r : Result)
-        → (j < hyperedgeCount ws) × (result (answer (getD ws (hyperedgeWord limit j) 0)) lent ≡ onFirst p answer (readHyperedges limit ws) lent r)
-    unfolding firstPassing
+        → (j < hyperedgeCount ws) × (result (answer (getD ws (hyperedgeWord limit j) 0)) lent ≡ onFirst p (byNumber answer) (readHyperedges limit ws) lent r)
     found answer lent r =
-        let q = from-passing p answer lent r zero (readHyperedges limit ws) j (sym e ∙ h) in
-        let z : q .0 ≡ j = sym (q .1 ∙ zero-add (q .0)) in
-        let l : j < hyperedgeCount ws = rw length-tab at (rw z at (q .2)) in
-        (l, ap (λ (v : Hyperedge). result (answer (v .number)) lent) (sym (getD-tab (hyperedgeAt limit ws) (hyperedgeCount ws) j noHyperedge l)) ∙ rw z at (q .3))
+        let q = on-first-passing p (byNumber answer) lent r noHyperedge (readHyperedges limit ws) j (sym e ∙ h) in
+        let l : j < hyperedgeCount ws = rw length-tab at (q .0) in
+        (l, ap (λ (v : Hyperedge). result (answer (v .number)) lent) (sym (getD-tab (hyperedgeAt limit ws) (hyperedgeCount ws) j noHyperedge l)) ∙ q .1)
 
     pub passing-within : Formed limit ws → j < hyperedgeLimit
     passing-within f = omega (arith, found Done [] (result (Done 0) []) .0, f .shape .hyperedges-le)
 
     pub on-passing : (answer : ℕ → Answer) (lent : List ℕ) (r : Result) (x : ℕ) → x ≡ getD ws (hyperedgeWord limit j) 0
-        → result (answer x) lent ≡ onFirst p answer (readHyperedges limit ws) lent r
+        → result (answer x) lent ≡ onFirst p (byNumber answer) (readHyperedges limit ws) lent r
     on-passing answer lent r x q = rw q (found answer lent r .1)
 
-  pub on-none-passing : (answer : ℕ → Answer) (lent : List ℕ) (r : Result) → s ≡ Nothing → r ≡ onFirst p answer (readHyperedges limit ws) lent r
-  unfolding firstPassing
-  on-none-passing answer lent r h = from-none p answer lent r zero (readHyperedges limit ws) (sym e ∙ h)
+  pub on-none-passing : (answer : ℕ → Answer) (lent : List ℕ) (r : Result) → s ≡ Nothing → r ≡ onFirst p (byNumber answer) (readHyperedges limit ws) lent r
+  on-none-passing answer lent r h = on-none-first p (byNumber answer) lent r (readHyperedges limit ws) (sym e ∙ h)

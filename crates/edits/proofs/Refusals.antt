@@ -10,18 +10,21 @@ use Rattle.lists.proofs.Tab.{length-tab}
 use Rattle.layout.specs.declared.Found.{Found}
 use Rattle.layout.specs.declared.Found.the-variants.{At, Nothing}
 use Rattle.layout.specs.declared.Answer.{Answer}
-use Rattle.layout.specs.declared.Answer.the-variants.{Done, NotWellFormed, NoMembers, VertexNotLive, TooManyMembers, Full, NumbersSpent}
+use Rattle.layout.specs.declared.Answer.the-variants.{Done, NotWellFormed, NoMembers, VertexNotLive, TooManyMembers, Full, NumbersSpent, EqualNeighbours}
 use Rattle.layout.specs.Content.{Table, liveVertices}
 use Rattle.layout.specs.Layout.{limit, size, vertexCount, vertexAt, read}
 use Rattle.layout.specs.Answers.{Result, result, vertexMissing, onLiveVertices}
-use Rattle.layout.specs.Inner.{firstMissing}
+use Rattle.layout.specs.Inner.{firstMissing, stepAt}
+use Rattle.layout.specs.Steps.{stepsOf, sameEnds}
 use Rattle.layout.proofs.Answers.{on-first-missing, on-none-missing}
+use Rattle.layout.proofs.Steps.{step-from}
 use Rattle.edits.specs.declared.Judgement.{Judgement}
 use Rattle.edits.specs.declared.Judgement.the-variants.{Refused, Fine}
 use Rattle.lists.specs.Inner.{overAt}
-use Rattle.edits.specs.Results.{lastNumber, onSome, onShort, onRoom, onNumber, clearResult, emptyResult}
-use Rattle.edits.specs.Stages.{onMembers, orElse, JudgedBy}
+use Rattle.edits.specs.Results.{lastNumber, onSome, onShort, twiceInARow, onUnequal, onRoom, onNumber, clearResult, emptyResult}
+use Rattle.edits.specs.Stages.{onMembers, orElse, NeighboursJudged, JudgedBy, firstPassing}
 use Rattle.edits.proofs.Stored.{zeros-all}
+use Rattle.edits.proofs.Passing.{on-first-passing, on-none-first}
 
 -- ---- clear: 1 only for a wrong length
 
@@ -44,7 +47,7 @@ module _ (ws : List ℕ) (n : ℕ) (e : n ≡ vertexCount ws) where
   unfolding emptyResult
   is-empty-no h = rw (length-tab (vertexAt ws) (vertexCount ws), ne-eqb (vertexCount ws) 0 (λ q. h (e ∙ q)))
 
--- ---- 2, 6 and 3: what `judge_members` says
+-- ---- 2, 6, 3 and 20: what `judge_members` says
 
 module _ (ms : List ℕ) (d : ℕ) (lent : List ℕ) (r : Result) where
   on-empty : length ms ≡ 0 → result (NoMembers d) lent ≡ onSome ms d lent r
@@ -81,19 +84,20 @@ module _ (ms : List ℕ) (d : ℕ) (t : Table) where
 
     -- p is what `first_missing_vertex` found
     module _ (short : length ms ≤ limit) (p : Found) (e : p ≡ firstMissing (liveVertices t) ms) where
-      listed : (lent : List ℕ) (r x : Result) → x ≡ onLiveVertices t ms lent r → x ≡ onMembers ms d t lent r
+      listed : (lent : List ℕ) (r x : Result) → x ≡ onLiveVertices t ms lent (onUnequal ms lent r) → x ≡ onMembers ms d t lent r
       listed lent r x q = q ∙ on-short ms lent _ short ∙ on-some ms d lent _ (not-none _ some)
 
       pub judged-missing : (i : ℕ) → p ≡ At i → JudgedBy (Refused (VertexNotLive (record { 0 = getD ms i 0 }))) ms d t
       judged-missing i h = record {
-        says = λ lent r. listed lent r _ (on-first-missing (liveVertices t) vertexMissing lent r ms i (sym e ∙ h) .1);
+        says = λ lent r. listed lent r _ (on-first-missing (liveVertices t) vertexMissing lent (onUnequal ms lent r) ms i (sym e ∙ h) .1);
         some = λ q. refused-fine _ q;
         short = λ q. refused-fine _ q;
       }
 
-      pub judged-fine : p ≡ Nothing → JudgedBy Fine ms d t
-      judged-fine h = record {
-        says = λ lent r. listed lent r _ (on-none-missing (liveVertices t) vertexMissing lent r ms (sym e ∙ h));
+      -- j is what `judge_neighbours` said
+      pub judged-live : p ≡ Nothing → (j : Judgement) → NeighboursJudged j ms → JudgedBy j ms d t
+      judged-live h j by = record {
+        says = λ lent r. listed lent r _ (by lent r ∙ on-none-missing (liveVertices t) vertexMissing lent (onUnequal ms lent r) ms (sym e ∙ h));
         some = λ q. not-none _ some;
         short = λ q. short;
       }
@@ -101,6 +105,20 @@ module _ (ms : List ℕ) (d : ℕ) (t : Table) where
 -- the place of the first missing one is one of the list's
 pub missing-within : (live ms : List ℕ) (p : Found) (i : ℕ) → p ≡ firstMissing live ms → p ≡ At i → i < length ms
 missing-within live ms p i e h = on-first-missing live vertexMissing [] (result Full []) ms i (sym e ∙ h) .0
+
+-- p is what `first_equal_neighbour` found
+module _ (ms : List ℕ) (p : Found) (e : p ≡ firstPassing sameEnds (stepsOf ms)) where
+  pub neighbour-within : (i : ℕ) → p ≡ At i → i < length ms
+  neighbour-within i h =
+      step-from (stepAt ms 0) ms i (on-first-passing sameEnds twiceInARow [] (result Full []) (stepAt ms 0) (stepsOf ms) i (sym e ∙ h) .0) .0
+
+  pub neighbours-equal : (i : ℕ) → p ≡ At i → NeighboursJudged (Refused (EqualNeighbours (record { 0 = getD ms i 0 }))) ms
+  neighbours-equal i h lent r =
+      let q = on-first-passing sameEnds twiceInARow lent r (stepAt ms 0) (stepsOf ms) i (sym e ∙ h) in
+      ap (λ (v : ℕ). result (EqualNeighbours (record { 0 = v })) lent) (sym (step-from (stepAt ms 0) ms i (q .0) .1)) ∙ q .1
+
+  pub neighbours-fine : p ≡ Nothing → NeighboursJudged Fine ms
+  neighbours-fine h lent r = on-none-first sameEnds twiceInARow lent r (stepsOf ms) (sym e ∙ h)
 
 -- j is what `judge_members` said
 module _ (j : Judgement) (ms : List ℕ) (d : ℕ) (t : Table) (by : JudgedBy j ms d t) where

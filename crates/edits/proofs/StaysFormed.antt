@@ -28,11 +28,11 @@ module _ (ws : List ℕ) (h : wellFormed limit ws ≡ true) where
 
   pub add-hyperedge-stays : (ms : List ℕ) (w : ℕ) → wellFormed limit (onFormed ws ws (addHyperedgeResult ms w ws) .lent) ≡ true
   unfolding Leaves
-  add-hyperedge-stays ms w = add-hyperedge-goes Leaves ws h (λ a n. h) ms w (λ found x. h) (λ new k. words-formed limit _ k)
+  add-hyperedge-stays ms w = add-hyperedge-goes Leaves ws h (λ a n. h) ms w (λ unequal found x. h) (λ unequal new k. words-formed limit _ k)
 
   pub update-stays : (x : ℕ) (ms : List ℕ) → wellFormed limit (onFormed ws ws (updateResult x ms ws) .lent) ≡ true
   unfolding Leaves
-  update-stays x ms = update-goes Leaves ws h (λ a n. h) x ms (λ k. words-formed limit _ k)
+  update-stays x ms = update-goes Leaves ws h (λ a n. h) x ms (λ unequal k. words-formed limit _ k)
 
   pub merge-stays : (v w : ℕ) → wellFormed limit (onFormed ws ws (mergeResult v w ws) .lent) ≡ true
   unfolding Leaves

@@ -7,16 +7,25 @@ use lib.ListN.{length, replicate}
 use Rattle.lists.specs.Tests.{_and_, bit}
 use Rattle.lists.specs.Lists.{sameList}
 use Rattle.layout.specs.declared.Answer.{Answer}
-use Rattle.layout.specs.declared.Answer.the-variants.{Done, NotWellFormed, NoMembers, SameMembers, TooManyMembers, Full, NumbersSpent, SameVertex, SideBySide}
+use Rattle.layout.specs.declared.Answer.the-variants.{Done, NotWellFormed, NoMembers, SameMembers, TooManyMembers, Full, NumbersSpent, SameVertex, SideBySide, EqualNeighbours}
 use Rattle.layout.specs.Content.{Hyperedge, Table}
 use Rattle.layout.specs.Layout.{vertexLimit, hyperedgeLimit, limit, size, words}
-use Rattle.layout.specs.Steps.{makesStep}
+use Rattle.layout.specs.Steps.{Step, stepsOf, sameEnds, makesStep}
 use Rattle.layout.specs.Answers.{Result, result, onLiveVertices, onLiveVertex, onLiveHyperedge}
 use Rattle.edits.specs.Edits.{addVertex, addHyperedge, updateHyperedge, removeVertex, mergeVertices, removeHyperedge}
 
 -- the number that is never given
 abbrev pub lastNumber : ℕ
 lastNumber = 4294967295
+
+-- the first of a list that passes the test gives its answer
+unfoldable pub onFirst : {A : Type 0} → (A → Bool) → (A → Answer) → List A → List ℕ → Result → Result
+onFirst p answer [] lent r = r
+onFirst p answer (x ∷ xs) lent r = cond (p x) (result (answer x) lent) (onFirst p answer xs lent r)
+
+-- a hyperedge gives the answer of its number; they ascend, so the first is the lowest
+abbrev pub byNumber : (ℕ → Answer) → Hyperedge → Answer
+byNumber answer e = answer (e .number)
 
 -- 2: member list empty
 abbrev pub hasSome : List ℕ → Bool
@@ -31,6 +40,13 @@ isShort ms = leb (length ms) limit
 
 unfoldable pub onShort : List ℕ → List ℕ → Result → Result
 onShort ms lent r = cond (isShort ms) r (result (TooManyMembers (length ms)) lent)
+
+-- 20: two equal neighbours; the vertex of the first place that equals the place after it
+abbrev pub twiceInARow : Step → Answer
+twiceInARow s = EqualNeighbours (record { 0 = s .from })
+
+abbrev pub onUnequal : List ℕ → List ℕ → Result → Result
+onUnequal ms lent r = onFirst sameEnds twiceInARow (stepsOf ms) lent r
 
 -- 7: as many live as the limit
 abbrev pub hasRoom : ℕ → ℕ → Bool
@@ -50,14 +66,9 @@ onNumber next lent r = cond (isSpent next) (result NumbersSpent lent) r
 unfoldable pub identical : List ℕ → ℕ → Hyperedge → Bool
 identical ms w e = sameList ms (e .members) and eqb w (e .weight)
 
--- the first hyperedge that passes the test gives the answer of its number; they ascend, so it is the lowest
-unfoldable pub onFirst : (Hyperedge → Bool) → (ℕ → Answer) → List Hyperedge → List ℕ → Result → Result
-onFirst p answer [] lent r = r
-onFirst p answer (e ∷ es) lent r = cond (p e) (result (answer (e .number)) lent) (onFirst p answer es lent r)
-
 -- an identical hyperedge answers its number, the first of several
 abbrev pub onNew : List ℕ → ℕ → List Hyperedge → List ℕ → Result → Result
-onNew ms w es lent r = onFirst (identical ms w) Done es lent r
+onNew ms w es lent r = onFirst (identical ms w) (byNumber Done) es lent r
 
 -- the members of the hyperedge of number x
 unfoldable pub membersOf : ℕ → List Hyperedge → List ℕ
@@ -86,7 +97,7 @@ abbrev pub sideBySideIn : ℕ → Answer
 sideBySideIn x = SideBySide (record { 0 = x })
 
 abbrev pub onApart : ℕ → ℕ → List Hyperedge → List ℕ → Result → Result
-onApart v w es lent r = onFirst (sideBySide v w) sideBySideIn es lent r
+onApart v w es lent r = onFirst (sideBySide v w) (byNumber sideBySideIn) es lent r
 
 -- add_vertex: 1, 7, 8
 unfoldable pub addVertexResult : ℕ → List ℕ → Table → Result
@@ -95,26 +106,28 @@ addVertexResult w ws t =
     (onNumber (t .nextVertex) ws
     (result (Done (t .nextVertex)) (words limit (addVertex w t))))
 
--- add_hyperedge: 1, 2, 6, 3, then an identical one, then 7, 8
+-- add_hyperedge: 1, 2, 6, 3, 20, then an identical one, then 7, 8
 unfoldable pub addHyperedgeResult : List ℕ → ℕ → List ℕ → Table → Result
 addHyperedgeResult ms w ws t =
     onSome ms w ws
     (onShort ms ws
     (onLiveVertices t ms ws
+    (onUnequal ms ws
     (onNew ms w (t .hyperedges) ws
     (onRoom (length (t .hyperedges)) hyperedgeLimit ws
     (onNumber (t .nextHyperedge) ws
-    (result (Done (t .nextHyperedge)) (words limit (addHyperedge ms w t))))))))
+    (result (Done (t .nextHyperedge)) (words limit (addHyperedge ms w t)))))))))
 
--- update_hyperedge_vertices: 1, 2, 6, 3, 4, 5
+-- update_hyperedge_vertices: 1, 2, 6, 3, 20, 4, 5
 unfoldable pub updateResult : ℕ → List ℕ → List ℕ → Table → Result
 updateResult x ms ws t =
     onSome ms x ws
     (onShort ms ws
     (onLiveVertices t ms ws
+    (onUnequal ms ws
     (onLiveHyperedge t x ws
     (onChanged x ms t ws
-    (result (Done 0) (words limit (updateHyperedge x ms t)))))))
+    (result (Done 0) (words limit (updateHyperedge x ms t))))))))
 
 -- remove_vertex: 1, 3
 unfoldable pub removeVertexResult : ℕ → List ℕ → Table → Result

@@ -13,30 +13,34 @@ use Rattle.layout.specs.Answers.{Result, result, onLiveVertices, onLiveVertex, 
 use Rattle.edits.specs.declared.Judgement.{Judgement}
 use Rattle.edits.specs.declared.Judgement.the-variants.{Refused, Fine}
 use Rattle.edits.specs.Edits.{addHyperedge, updateHyperedge, mergeVertices}
-use Rattle.edits.specs.Results.{onSome, onShort, onRoom, onNumber, onNew, onChanged, onOther, onApart}
+use Rattle.edits.specs.Results.{onSome, onShort, onUnequal, onRoom, onNumber, onNew, onChanged, onOther, onApart}
 
--- 2, 6, 3
+-- 2, 6, 3, 20
 abbrev pub onMembers : List ℕ → ℕ → Table → List ℕ → Result → Result
-onMembers ms d t lent r = onSome ms d lent (onShort ms lent (onLiveVertices t ms lent r))
+onMembers ms d t lent r = onSome ms d lent (onShort ms lent (onLiveVertices t ms lent (onUnequal ms lent r)))
 
 -- the answer that refuses a member list, or what comes after
 abbrev pub orElse : Judgement → List ℕ → Result → Result
 orElse (Refused a) lent r = result a lent
 orElse Fine lent r = r
 
--- j is what 2, 6 and 3 say of the list
+-- j is what 20 says of the list
+abbrev pub NeighboursJudged : Judgement → List ℕ → Type 0
+NeighboursJudged j ms = (lent : List ℕ) (r : Result) → orElse j lent r ≡ onUnequal ms lent r
+
+-- j is what 2, 6, 3 and 20 say of the list
 pub record JudgedBy (j : Judgement) (ms : List ℕ) (d : ℕ) (t : Table) : Type 0 where
   pub says : (lent : List ℕ) (r : Result) → orElse j lent r ≡ onMembers ms d t lent r
   pub some : j ≡ Fine → 0 < length ms
   pub short : j ≡ Fine → length ms ≤ limit
 
--- the place of the first hyperedge that passes the test, counted from i
-unfoldable pub firstPassingFrom : (Hyperedge → Bool) → ℕ → List Hyperedge → Found
+-- the place of the first of a list that passes the test, counted from i
+unfoldable pub firstPassingFrom : {A : Type 0} → (A → Bool) → ℕ → List A → Found
 firstPassingFrom p i [] = Nothing
-firstPassingFrom p i (e ∷ es) = cond (p e) (At i) (firstPassingFrom p (suc i) es)
+firstPassingFrom p i (x ∷ xs) = cond (p x) (At i) (firstPassingFrom p (suc i) xs)
 
-unfoldable pub firstPassing : (Hyperedge → Bool) → List Hyperedge → Found
-firstPassing p es = firstPassingFrom p zero es
+unfoldable pub firstPassing : {A : Type 0} → (A → Bool) → List A → Found
+firstPassing p xs = firstPassingFrom p zero xs
 
 -- add_hyperedge, where no hyperedge is identical: 7, 8
 unfoldable pub addNewResult : List ℕ → ℕ → List ℕ → Table → Result
@@ -45,7 +49,7 @@ addNewResult ms w ws t =
     (onNumber (t .nextHyperedge) ws
     (result (Done (t .nextHyperedge)) (words limit (addHyperedge ms w t))))
 
--- add_hyperedge, where 2, 6 and 3 refuse nothing: an identical one, then 7, 8
+-- add_hyperedge, where 2, 6, 3 and 20 refuse nothing: an identical one, then 7, 8
 unfoldable pub addJudgedResult : List ℕ → ℕ → List ℕ → Table → Result
 addJudgedResult ms w ws t = onNew ms w (t .hyperedges) ws (addNewResult ms w ws t)
 
@@ -53,7 +57,7 @@ addJudgedResult ms w ws t = onNew ms w (t .hyperedges) ws (addNewResult ms w ws 
 unfoldable pub updateLiveResult : ℕ → List ℕ → List ℕ → Table → Result
 updateLiveResult x ms ws t = onChanged x ms t ws (result (Done 0) (words limit (updateHyperedge x ms t)))
 
--- update_hyperedge_vertices, where 2, 6 and 3 refuse nothing: 4, 5
+-- update_hyperedge_vertices, where 2, 6, 3 and 20 refuse nothing: 4, 5
 unfoldable pub updateJudgedResult : ℕ → List ℕ → List ℕ → Table → Result
 updateJudgedResult x ms ws t = onLiveHyperedge t x ws (updateLiveResult x ms ws t)
 

@@ -5,10 +5,10 @@ ghost use Prim.Native.Nat.{_+_, _<_, _≤_};
 ghost use lib.ListN.{length, replicate};
 ghost use Rattle.lists.specs.Lists.{over};
 ghost use Rattle.layout.specs.Layout.{limit, hyperedgeCount, hyperedgeAt, membersAt, read};
-ghost use Rattle.layout.specs.Inner.{Formed};
+ghost use Rattle.layout.specs.Inner.{Formed, stepAt};
 ghost use Rattle.layout.specs.Steps.{isStep};
 ghost use Rattle.lookups.specs.Lookups.{places, held, block, listing};
-ghost use Rattle.lookups.specs.State.{stepAt, blockLength};
+ghost use Rattle.lookups.specs.State.{blockLength};
 use lookups::Listing;
 use lookups::holds;
 

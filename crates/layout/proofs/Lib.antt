@@ -8,3 +8,4 @@ pub mod Back
 pub mod Record
 pub mod Answers
 pub mod Sizes
+pub mod Steps

@@ -1,4 +1,5 @@
--- What inner functions are stated with: the parts of the test of a table, and the first of a list that is not live. Assumes nothing.
+-- What inner functions are stated with: the parts of the test of a table, the first of a list that is not live, a list's step by its place.
+-- Assumes nothing.
 use mathlib.Core.Path.{_≡_}
 use mathlib.Core.Bool.{true, cond}
 use mathlib.Core.List.{List, [], _∷_}
@@ -9,6 +10,7 @@ use Rattle.lists.specs.Lists.{tab, Ascending}
 use Rattle.layout.specs.Content.{valid, isLive}
 use Rattle.layout.specs.Layout.{vertexLimit, hyperedgeLimit, vertexSize, recordSize, verticesAt, hyperedgesAt, size, vertexWord, nextVertexIn, vertexCount, hyperedgeCount, countAt, read}
 use Rattle.layout.specs.WellFormed.{recordShaped, unusedVertices, unusedHyperedges}
+use Rattle.layout.specs.Steps.{Step}
 use Rattle.layout.specs.declared.Found.{Found}
 use Rattle.layout.specs.declared.Found.the-variants.{At, Nothing}
 
@@ -48,3 +50,7 @@ firstMissingFrom i live (x ∷ xs) = cond (isLive live x) (firstMissingFrom (suc
 
 unfoldable pub firstMissing : List ℕ → List ℕ → Found
 firstMissing live xs = firstMissingFrom zero live xs
+
+-- the step at place i of a list
+abbrev pub stepAt : List ℕ → ℕ → Step
+stepAt ms i = record { from = getD ms i 0; to = getD ms (i + 1) 0 }

@@ -19,6 +19,14 @@ stepsOf [] = []
 stepsOf (x ∷ []) = []
 stepsOf (x ∷ y ∷ ms) = record { from = x; to = y } ∷ stepsOf (y ∷ ms)
 
+-- the step is from a vertex to itself
+unfoldable pub sameEnds : Step → Bool
+sameEnds s = eqb (s .from) (s .to)
+
+-- the list has two equal neighbours: a place that equals the place after it
+unfoldable pub equalNeighbours : List ℕ → Bool
+equalNeighbours ms = any sameEnds (stepsOf ms)
+
 -- the step is x to y
 unfoldable pub isStep : ℕ → ℕ → Step → Bool
 isStep x y s = eqb (s .from) x and eqb (s .to) y

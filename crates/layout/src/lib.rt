@@ -48,6 +48,7 @@ pub enum Answer {
     BadText(usize),
     SameVertex(VertexIndex),
     SideBySide(HyperedgeIndex),
+    EqualNeighbours(VertexIndex),
 }
 
 // The rules' number and detail of an answer.
@@ -76,6 +77,7 @@ pub fn reply_of(a: Answer) -> Reply
         Answer::BadText(line) => reply_with(12, line as u64),
         Answer::SameVertex(v) => reply_with(13, v.0 as u64),
         Answer::SideBySide(e) => reply_with(14, e.0 as u64),
+        Answer::EqualNeighbours(v) => reply_with(20, v.0 as u64),
     }
 }
 

@@ -19,13 +19,13 @@ use Rattle.lists.proofs.Flat.{flat-suc, flat-more}
 use Rattle.lists.proofs.Chosen.{over-none, over-more, over-part, over-length}
 use Rattle.layout.specs.Content.{Hyperedge}
 use Rattle.layout.specs.Layout.{recordSize, hyperedgesAt, hyperedgeWord, hyperedgeCount, countAt, hyperedgeAt, membersAt}
-use Rattle.layout.specs.Inner.{Formed}
+use Rattle.layout.specs.Inner.{Formed, stepAt}
 use Rattle.layout.specs.Steps.{isStep}
 use Rattle.layout.proofs.Read.{members-le}
 use Rattle.lookups.specs.declared.Listing.{Listing}
 use Rattle.lookups.specs.declared.Listing.the-variants.{Connecting, Weighing, Holding}
 use Rattle.lookups.specs.Lookups.{places, placesIn, held, block}
-use Rattle.lookups.specs.State.{stepAt, blockLength}
+use Rattle.lookups.specs.State.{blockLength}
 use Rattle.lookups.proofs.Places.{places-le}
 
 -- ---- the step at place i: the code compared its first end with x, and then its second with y

@@ -16,28 +16,14 @@ use Rattle.lists.proofs.Kept.{filter-length}
 use Rattle.lists.proofs.Tab.{drop-tab, length-tab}
 use Rattle.layout.specs.Steps.{Step, stepsOf}
 use Rattle.layout.specs.Layout.{hyperedgeCount, hyperedgeAt, membersAt, readHyperedges}
-use Rattle.layout.specs.Inner.{Formed}
+use Rattle.layout.specs.Inner.{Formed, stepAt}
 use Rattle.layout.proofs.Read.{members-le}
+use Rattle.layout.proofs.Steps.{steps-more, steps-end}
 use Rattle.lookups.specs.declared.Direction.{Direction}
 use Rattle.lookups.specs.declared.Direction.the-variants.{From, To}
 use Rattle.lookups.specs.declared.Ends.{Ends}
 use Rattle.lookups.specs.Lookups.{hasEnd, places, placesIn}
-use Rattle.lookups.specs.State.{endsOf, stepAt}
-
--- ---- a loop over i along the steps of ms
-
-module _ (ms : List ℕ) (i : ℕ) where
-  pub steps-more : i + 1 < length ms → stepsOf (drop i ms) ≡ stepAt ms i ∷ stepsOf (drop (i + 1) ms)
-  unfolding stepsOf
-  steps-more h = rw (drop-cons ms i 0 (omega arith), ← add-one i, drop-cons ms (i + 1) 0 h)
-
-pub steps-end : (ms : List ℕ) (i : ℕ) → length ms ≤ i + 1 → stepsOf (drop i ms) ≡ []
-unfolding stepsOf
-steps-end [] zero h = refl
-steps-end [] (suc i) h = refl
-steps-end (x ∷ []) zero h = refl
-steps-end (x ∷ y ∷ ms) zero h = absurd (not-suc-le-zero (le-of-suc-le-suc (rw (add-one 0) at h)))
-steps-end (x ∷ ms) (suc i) h = steps-end ms i (omega arith)
+use Rattle.lookups.specs.State.{endsOf}
 
 -- the ends of the step at place i: the code went by the direction
 module _ (dir : Direction) (ms : List ℕ) (i : ℕ) where

@@ -17,7 +17,7 @@ use Rattle.layout.specs.declared.Found.{Found}
 use Rattle.layout.specs.declared.Found.the-variants.{At, Nothing}
 use Rattle.layout.specs.Content.{Hyperedge, Table, liveVertices, position}
 use Rattle.layout.specs.Layout.{limit, vertexLimit, vertexCount, hyperedgeCount, hyperedgeAt, membersAt, readHyperedges, read}
-use Rattle.layout.specs.Inner.{Formed}
+use Rattle.layout.specs.Inner.{Formed, stepAt}
 use Rattle.layout.specs.Steps.{isStep}
 use Rattle.layout.proofs.Position.{position-found, position-missing}
 use Rattle.layout.proofs.Read.{live-length, vertex-found}
@@ -27,7 +27,7 @@ use Rattle.lookups.specs.declared.Ends.{Ends}
 use Rattle.lookups.specs.declared.Listing.{Listing}
 use Rattle.lookups.specs.declared.Listing.the-variants.{Connecting}
 use Rattle.lookups.specs.Lookups.{oriented, places, placesIn, block, listing, connecting}
-use Rattle.lookups.specs.State.{endsOf, stepAt, blockLength, listingMost, listingAhead, nothing, tallying, Tallied}
+use Rattle.lookups.specs.State.{endsOf, blockLength, listingMost, listingAhead, nothing, tallying, Tallied}
 use Rattle.lookups.proofs.Places.{places-more, places-none, records-more, records-none}
 use Rattle.lookups.proofs.Marking.{step-yes, step-no}
 use Rattle.lookups.proofs.Laid.{block-most}

@@ -140,10 +140,6 @@ abbrev pub endsOf : Direction → Step → Ends
 endsOf From s = record { near = s .from; far = s .to }
 endsOf To s = record { near = s .to; far = s .from }
 
--- the step at place i of a list
-abbrev pub stepAt : List ℕ → ℕ → Step
-stepAt ms i = record { from = getD ms i 0; to = getD ms (i + 1) 0 }
-
 -- how many words that is
 unfoldable pub blockLength : Listing → Hyperedge → ℕ
 blockLength q e = length (block q e)

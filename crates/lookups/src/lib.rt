@@ -3,7 +3,8 @@ ghost use mathlib.Core.Path.{_≡_};
 ghost use Prim.Native.Nat.{_+_, _<_};
 ghost use lib.ListN.{length};
 ghost use Rattle.lists.specs.Lists.{memb};
-ghost use Rattle.lookups.specs.State.{endsOf, stepAt};
+ghost use Rattle.layout.specs.Inner.{stepAt};
+ghost use Rattle.lookups.specs.State.{endsOf};
 
 // A direction of steps, seen from a vertex v. From: the steps that lead from v, to a vertex right after it in a list. To: the
 // steps that lead to v, from a vertex right before it.

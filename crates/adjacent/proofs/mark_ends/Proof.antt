@@ -8,9 +8,9 @@ use lib.ListN.{length, drop}
 use Rattle.layout.specs.Content.{liveVertices}
 use Rattle.layout.specs.Layout.{limit, read}
 use Rattle.layout.specs.Steps.{stepsOf, isStep}
+use Rattle.layout.specs.Inner.{stepAt}
+use Rattle.layout.proofs.Steps.{steps-more, steps-end}
 use Rattle.lookups.specs.Lookups.{oriented}
-use Rattle.lookups.specs.State.{stepAt}
-use Rattle.lookups.proofs.Places.{steps-more, steps-end}
 use Rattle.lookups.proofs.Marking.{mark-one, Marking, marking-none, marking-more, marking-skip, marking-end, marked-as, step-yes, step-no}
 use borrow.Author.Needs.{needs}
 use Rattle.adjacent.proofs.mark_ends.Statement.{statement}
