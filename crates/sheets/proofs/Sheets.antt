@@ -12,7 +12,8 @@ use Rattle.layout.specs.Content.{Table, position, positionFrom, membersLive, nu
 use Rattle.layout.specs.Layout.{limit, size, words}
 use Rattle.layout.specs.Steps.{stepsOf, isStep, makesStep, hasStep}
 use Rattle.layout.specs.WellFormed.{countFits, holdable}
-use Rattle.layout.specs.Answers.{Result, onFormed, onLive, listed}
+use Rattle.layout.specs.declared.Answer.the-variants.{Done}
+use Rattle.layout.specs.Answers.{Result, result, onFormed, onLive, listed}
 use Rattle.layout.proofs.Back.{read-words, words-formed}
 use Rattle.graph.specs.Bfs.{push, spread, run, bfs}
 use Rattle.order.specs.Least.{least}
@@ -64,11 +65,15 @@ called : (t : Table) → holdable limit t ≡ true → (lent : List ℕ) (f : Ta
 unfolding onFormed
 called t h lent f = rw (words-formed limit t h, read-words limit t h)
 
+-- an accepted text is read
+read-done : (bytes slice : List ℕ) → accepted bytes ≡ true → length slice ≡ size limit → readResult bytes slice ≡ result (Done 0) (words limit (contentOf bytes))
+unfolding readResult
+read-done bytes slice a n = rw (eq-eqb (length slice) (size limit) n, a)
+
 -- the words of a case's table are those of its content
 laid : (g : Given) → reads g ≡ true → (slice : List ℕ) → length slice ≡ size limit → tableIn g slice ≡ words limit (content g)
-unfolding readResult
 laid (held t) a slice n = refl
-laid (text bytes) a slice n = rw (eq-eqb (length slice) (size limit) n, a)
+laid (text bytes) a slice n = ap (λ (r : Result). r .lent) (read-done bytes slice a n)
 
 pub hold : (cs : List Case) → map asked cs ≡ map answered cs → all inWords cs ≡ true → Hold cs
 unfolding all
