@@ -33,6 +33,7 @@ pub record Unequal (ws : List ℕ) : Type 0 where
 abbrev LeavesUnequal : Result → Type 0
 LeavesUnequal r = Unequal (r .lent)
 
+-- the words of a content
 words-unequal : (t : Table) → holdable limit t ≡ true → noneTwice t ≡ true → Unequal (words limit t)
 words-unequal t h n = record { formed = words-formed limit t h; none-twice = ap noneTwice (read-words limit t h) ∙ n }
 
@@ -48,6 +49,7 @@ module _ (ws : List ℕ) (u : Unequal ws) where
   sized : length ws ≡ size limit
   sized = formed-of limit ws (u .formed) .shape .sized
 
+  -- the words that are left where a hyperedge is removed, or is not live
   removed : (x : ℕ) → Unequal (removeHyperedgeResult x ws (read limit ws) .lent)
   unfolding removeHyperedgeResult onLive
   removed x =
@@ -59,6 +61,7 @@ module _ (ws : List ℕ) (u : Unequal ws) where
   unfolding clearResult
   cleared = record { formed = clear-stays ws sized; none-twice = rw (eq-eqb (length ws) (size limit) sized) zeros-none }
 
+  -- every call but those that may bring equals together, done or refused
   pub call-keeps : (c : Call) → mayBring c ≡ false → Unequal (call c ws .lent)
   unfolding call edit removal mayBring
   call-keeps (anEdit (addVertex w)) q =

@@ -28,7 +28,7 @@ all-not p (x ∷ xs) = on (p x) (λ e. rw e) (λ e. rw e (all-not p xs))
 
 -- ---- a step to itself is a place with two equal neighbours
 
--- the step is x to x
+-- a step of x to x has the same ends, and a step with the same ends is one of its first end to itself
 same-is : (x : ℕ) (s : Step) → isStep x x s ≡ true → sameEnds s ≡ true
 unfolding isStep sameEnds
 same-is x s h = eq-eqb (s .from) (s .to) (eqb-true (s .from) x (and-left _ _ h) ∙ sym (eqb-true (s .to) x (and-right _ _ h)))
@@ -38,6 +38,7 @@ unfolding isStep sameEnds
 is-same s h = and-both _ _ (eq-eqb (s .from) (s .from) refl) (eq-eqb (s .to) (s .from) (sym (eqb-true (s .from) (s .to) h)))
 
 module _ (t : Table) where
+  -- the list of a hyperedge has two equal neighbours
   abbrev hasTwice : Hyperedge → Bool
   hasTwice e = equalNeighbours (e .members)
 

@@ -76,10 +76,12 @@ pub record LeavesNoneTwice (cs : List Call) (ws : List ℕ) : Type 0 where
   -- no vertex has a step to itself
   pub no-self-step : (x : ℕ) → StepIn (read limit (afterCalls cs ws)) x x → ⊥
 
--- a call that is not refused, after which some list of a table has two equal neighbours where none had: ws are the words before it
+-- a call that brings equals together in a list of a table's words ws
 pub record Brings (c : Call) (ws : List ℕ) : Type 0 where
+  -- a table in which no list had two equal neighbours
   pub formed : wellFormed limit ws ≡ true
   pub none-before : NoneTwice ws
+  -- the call is made, and some list has two
   pub accepted : Accepted c ws
   pub some-after : SomeTwice (afterCalls (c ∷ []) ws)
 
