@@ -71,7 +71,7 @@ pub merge-judged : (v w : ℕ) (ws : List ℕ) → Judged (mergeGrounds v w ws) 
 unfolding mergeResult
 merge-judged v w ws =
     let t = read limit ws in
-    let fourteen = rw (append-nil (beside v w t)) at (apart-judged (none-refused {ws} {result (Done 0) (words limit (mergeVertices v w t))} refl) v w t) in
+    let fourteen = rw (append-nil (beside v w t)) at (apart-judged (none-refused {lent = ws} {r = result (Done 0) (words limit (mergeVertices v w t))} refl) v w t) in
     let thirteen = other-judged fourteen v w in
     formed-judged ws (mergeResult v w ws) (live-judged thirteen (liveVertices t) vertexMissing (v ∷ w ∷ []))
 
