@@ -10,7 +10,7 @@ use Rattle.lists.specs.Lists.{all, any, sameList}
 use Rattle.lists.proofs.Cases.{on, and-left, and-right, and-both, or-right}
 use Rattle.layout.specs.declared.Answer.{Answer}
 use Rattle.layout.specs.declared.Answer.the-variants.{Done, NoMembers, SameMembers, TooManyMembers, Full, NumbersSpent, SameVertex}
-use Rattle.layout.specs.Content.{Hyperedge, Table, isLive}
+use Rattle.layout.specs.Content.{Table, isLive}
 use Rattle.layout.specs.Layout.{limit, vertexLimit, hyperedgeLimit, read, words}
 use Rattle.layout.specs.WellFormed.{wellFormed, holdable}
 use Rattle.layout.specs.Steps.{stepsOf, sameEnds, equalNeighbours}

@@ -7,7 +7,7 @@ use lib.ListN.{length}
 use Rattle.layout.specs.declared.Found.{Found}
 use Rattle.layout.specs.declared.Found.the-variants.{At, Nothing}
 use Rattle.layout.specs.declared.Answer.the-variants.{Done}
-use Rattle.layout.specs.Content.{Hyperedge, Table}
+use Rattle.layout.specs.Content.{Table}
 use Rattle.layout.specs.Layout.{limit, hyperedgeLimit, words}
 use Rattle.layout.specs.Answers.{Result, result, onLiveVertices, onLiveVertex, onLiveHyperedge}
 use Rattle.edits.specs.declared.Judgement.{Judgement}

@@ -81,8 +81,7 @@ hold [] e h = tt
 hold (c ∷ cs) e h =
     let here : asked c ≡ answered c = cc in
     let behind : map asked cs ≡ map answered cs = cc in
-    let fit : inWords c ≡ true = and-left _ _ h in
-    (
+    let fit : inWords c ≡ true = and-left _ _ h in (
       λ slice lent n. ap (λ (ws : List ℕ). onFormed ws lent (c .query)) (laid (c .given) (and-left _ _ fit) slice n)
           ∙ called (content (c .given)) (and-right _ _ fit) lent (c .query) ∙ here,
       hold cs behind (and-right _ _ h),

@@ -1,6 +1,7 @@
 -- `member_lists::first_equal_neighbour` meets its contract: what is left of the search is the whole of it. Assumes nothing.
 use mathlib.Core.Path.{_≡_, refl}
 use Prim.Native.Nat.{_≤_, _-_}
+use native.Mathlib.Omega.{arith}
 use lib.ListN.{length, drop}
 use Rattle.layout.specs.Steps.{stepsOf, sameEnds}
 use Rattle.edits.specs.Stages.{firstPassing, firstPassingFrom}
@@ -38,7 +39,7 @@ shared-slice-read-if1-2 : tie.Need-shared-slice-read-if1-2 Inv-loop μ-loop
 shared-slice-read-if1-2 c = search needs
 
 returns : tie.Need-returns Inv-loop μ-loop
-returns c = search equal-here
+returns c = let b = c .before .before .before in equal-here _ _ _ (b .before .loop .inv .1) (omega (arith, b .loop-test .taken)) (c .if1 .taken)
 
 add-i : tie.Need-add-i Inv-loop μ-loop
 add-i c = search needs
@@ -47,7 +48,8 @@ loop-less : tie.Need-loop-less Inv-loop μ-loop
 loop-less c = search needs
 
 loop-again : tie.Need-loop-again Inv-loop μ-loop
-loop-again c = (search needs, search unequal-here)
+loop-again c =
+    let b = c .before .before .before in (search needs, unequal-here _ _ _ (b .before .loop .inv .1) (omega (arith, b .loop-test .taken)) (c .if1 .left))
 
 returns-2 : tie.Need-returns-2 Inv-loop μ-loop
 returns-2 c = search none-left
