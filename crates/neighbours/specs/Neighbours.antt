@@ -76,12 +76,12 @@ pub record LeavesNoneTwice (cs : List Call) (ws : List ℕ) : Type 0 where
   -- no vertex has a step to itself
   pub no-self-step : (x : ℕ) → StepIn (read limit (afterCalls cs ws)) x x → ⊥
 
--- a call that brings equals together in a list of a table's words ws
+-- what it is that a call brings equals together: ws are the words of a table before it
 pub record Brings (c : Call) (ws : List ℕ) : Type 0 where
   -- a table in which no list had two equal neighbours
   pub formed : wellFormed limit ws ≡ true
   pub none-before : NoneTwice ws
-  -- the call is made, and some list has two
+  -- the call is not refused, and some list has two after it
   pub accepted : Accepted c ws
   pub some-after : SomeTwice (afterCalls (c ∷ []) ws)
 
