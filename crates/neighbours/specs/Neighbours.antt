@@ -1,0 +1,106 @@
+-- Tables in which no list has two equal neighbours, the calls that write a table, and which of them keep it so. Assumes nothing.
+use mathlib.Core.Path.{_≡_}
+use mathlib.Core.Bool.{Bool, true, false, not}
+use mathlib.Core.List.{List, [], _∷_}
+use Prim.Native.Nat.{ℕ}
+use Rattle.lists.specs.Lists.{all}
+use Rattle.layout.specs.Content.{vertexOf, hyperedgeOf, Hyperedge, Table}
+use Rattle.layout.specs.Layout.{limit, read}
+use Rattle.layout.specs.WellFormed.{wellFormed}
+use Rattle.layout.specs.Steps.{equalNeighbours, StepIn}
+use Rattle.layout.specs.Answers.{Result}
+use Rattle.edits.specs.Results.{clearResult}
+use Rattle.removals.specs.Removals.{vertex, hyperedge}
+use Rattle.frames.specs.Reading.{readResult}
+use Rattle.demands.specs.Numbers.{Edit, addVertex, addHyperedge, update, merge, remove, edit}
+
+-- ---- the tables
+
+-- the hyperedge's list has no two equal neighbours
+unfoldable pub neighboursDiffer : Hyperedge → Bool
+neighboursDiffer e = not (equalNeighbours (e .members))
+
+-- no list of the table has two equal neighbours
+unfoldable pub noneTwice : Table → Bool
+noneTwice t = all neighboursDiffer (t .hyperedges)
+
+-- the same of a table's words, and that some list has two
+abbrev pub NoneTwice : List ℕ → Type 0
+NoneTwice ws = noneTwice (read limit ws) ≡ true
+
+abbrev pub SomeTwice : List ℕ → Type 0
+SomeTwice ws = noneTwice (read limit ws) ≡ false
+
+-- ---- the calls
+
+-- every call that writes a table: an edit, `clear`, the read of a text
+pub data Call : Type 0 where
+  anEdit : Edit → Call
+  clear : Call
+  readText : List ℕ → Call
+
+-- what one call answers and leaves
+unfoldable pub call : Call → List ℕ → Result
+call (anEdit e) ws = edit e ws
+call clear ws = clearResult ws
+call (readText text) ws = readResult text ws
+
+-- it is not refused
+abbrev pub Accepted : Call → List ℕ → Type 0
+Accepted c ws = call c ws .number ≡ 0
+
+-- the words after one call for each of the list
+unfoldable pub afterCalls : List Call → List ℕ → List ℕ
+afterCalls [] ws = ws
+afterCalls (c ∷ cs) ws = afterCalls cs (call c ws .lent)
+
+-- the calls that may bring equals together: the removal of a vertex, and the read of a text
+unfoldable pub mayBring : Call → Bool
+mayBring (anEdit (addVertex w)) = false
+mayBring (anEdit (addHyperedge ms w)) = false
+mayBring (anEdit (update x ms)) = false
+mayBring (anEdit (merge v w)) = false
+mayBring (anEdit (remove (vertex v))) = true
+mayBring (anEdit (remove (hyperedge x))) = false
+mayBring clear = false
+mayBring (readText text) = true
+
+-- ---- what they leave
+
+-- what a list of calls leaves of a table's words ws, where none of them may bring equals together and no list had two equal neighbours
+pub record LeavesNoneTwice (cs : List Call) (ws : List ℕ) : Type 0 where
+  -- a table again
+  pub formed : wellFormed limit (afterCalls cs ws) ≡ true
+  -- no list of it has two equal neighbours
+  pub none-twice : NoneTwice (afterCalls cs ws)
+  -- no vertex has a step to itself
+  pub no-self-step : (x : ℕ) → StepIn (read limit (afterCalls cs ws)) x x → ⊥
+
+-- what it is that a call brings equals together: ws are the words of a table before it
+pub record Brings (c : Call) (ws : List ℕ) : Type 0 where
+  -- a table in which no list had two equal neighbours
+  pub formed : wellFormed limit ws ≡ true
+  pub none-before : NoneTwice ws
+  -- the call is not refused, and some list has two after it
+  pub accepted : Accepted c ws
+  pub some-after : SomeTwice (afterCalls (c ∷ []) ws)
+
+-- ---- two tables to show it by
+
+-- vertices 0 and 1, and the list [0,1,0]
+abbrev pub Between : Table
+Between = record {
+  nextVertex = 2;
+  nextHyperedge = 1;
+  vertices = vertexOf 0 0 ∷ vertexOf 1 0 ∷ [];
+  hyperedges = hyperedgeOf 0 0 (0 ∷ 1 ∷ 0 ∷ []) ∷ [];
+}
+
+-- vertex 0, and the list [0,0]
+abbrev pub Together : Table
+Together = record {
+  nextVertex = 2;
+  nextHyperedge = 1;
+  vertices = vertexOf 0 0 ∷ [];
+  hyperedges = hyperedgeOf 0 0 (0 ∷ 0 ∷ []) ∷ [];
+}
