@@ -14,7 +14,8 @@ use Rattle.layout.specs.WellFormed.{wellFormed}
 use Rattle.layout.proofs.Back.{read-holdable}
 use Rattle.layout.proofs.Holdable.{Holdable, holdable-of}
 use Rattle.edits.proofs.AddHoldable.{numbered-more, below-next}
-use Rattle.demands.specs.Numbers.{Kind, vertices, hyperedges, live, nextNumber, Edit, edit, after, givenBy, given, seen, NotTwice}
+use Rattle.calls.specs.Calls.{Edit, edit, after}
+use Rattle.demands.specs.Numbers.{Kind, vertices, hyperedges, live, nextNumber, givenBy, given, seen, NotTwice}
 use Rattle.demands.proofs.NumbersSteps.{Moved, kept, grown, edit-moved}
 
 -- ---- one call

@@ -21,7 +21,8 @@ use Rattle.edits.proofs.Outcomes.{add-vertex-goes, add-hyperedge-goes, update-g
 use Rattle.removals.specs.Removals
 use Rattle.removals.specs.Removals.{Removal, removeAll, withdrawn}
 use Rattle.removals.proofs.Theorems.{removals-formed, removals-content, removals-vertex, removals-hyperedge}
-use Rattle.demands.specs.Numbers.{Kind, vertices, hyperedges, ofKind, live, nextNumber, Edit, addVertex, addHyperedge, update, merge, remove, edit, answered, givenBy}
+use Rattle.calls.specs.Calls.{Edit, addVertex, addHyperedge, update, merge, remove, edit}
+use Rattle.demands.specs.Numbers.{Kind, vertices, hyperedges, ofKind, live, nextNumber, answered, givenBy}
 
 -- from the words ws to the words s, with the numbers given between them: none, and nothing is live that was not; or the next one, and it is live
 pub data Moved (k : Kind) (ws s : List ℕ) : List ℕ → Type 0 where

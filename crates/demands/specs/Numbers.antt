@@ -1,4 +1,4 @@
--- Edits one call after the other, the numbers that they give, and what it is that no number is given twice. Assumes nothing.
+-- The numbers that edits give, one call after the other, and what it is that no number is given twice. Assumes nothing.
 use mathlib.Core.Path.{_≡_}
 use mathlib.Core.Bool.{true, cond}
 use mathlib.Core.List.{List, [], _∷_, _++_}
@@ -8,9 +8,9 @@ use Rattle.lists.specs.Lists.{any, memb, ascending}
 use Rattle.layout.specs.Content.{liveVertices, liveHyperedges}
 use Rattle.layout.specs.Layout.{limit, read}
 use Rattle.layout.specs.WellFormed.{wellFormed}
-use Rattle.layout.specs.Answers.{Result, onFormed}
-use Rattle.edits.specs.Results.{identical, addVertexResult, addHyperedgeResult, updateResult, mergeResult}
-use Rattle.removals.specs.Removals.{Removal, removal}
+use Rattle.layout.specs.Answers.{Result}
+use Rattle.edits.specs.Results.{identical}
+use Rattle.calls.specs.Calls.{Edit, addVertex, addHyperedge, update, merge, remove, edit, after}
 
 -- ---- the two kinds
 
@@ -31,29 +31,6 @@ live k ws = ofKind k (liveVertices (read limit ws)) (liveHyperedges (read limit 
 -- the next number of a kind in a table's words
 unfoldable pub nextNumber : Kind → List ℕ → ℕ
 nextNumber k ws = ofKind k (read limit ws .nextVertex) (read limit ws .nextHyperedge)
-
--- ---- the calls
-
--- an edit: every one but `clear` and the reading of a text, which set the next numbers anew
-pub data Edit : Type 0 where
-  addVertex : ℕ → Edit
-  addHyperedge : List ℕ → ℕ → Edit
-  update : ℕ → List ℕ → Edit
-  merge : ℕ → ℕ → Edit
-  remove : Removal → Edit
-
--- what one call answers and leaves
-unfoldable pub edit : Edit → List ℕ → Result
-edit (addVertex w) ws = onFormed ws ws (addVertexResult w ws)
-edit (addHyperedge ms w) ws = onFormed ws ws (addHyperedgeResult ms w ws)
-edit (update x ms) ws = onFormed ws ws (updateResult x ms ws)
-edit (merge v w) ws = onFormed ws ws (mergeResult v w ws)
-edit (remove r) ws = removal r ws
-
--- the words after one call for each of the list
-unfoldable pub after : List Edit → List ℕ → List ℕ
-after [] ws = ws
-after (e ∷ es) ws = after es (edit e ws .lent)
 
 -- ---- the numbers that are given
 

@@ -20,7 +20,7 @@ use Rattle.edits.proofs.Merged.{merge-holdable}
 use Rattle.edits.proofs.Outcomes.{add-vertex-goes, add-hyperedge-goes, update-goes, merge-goes}
 use Rattle.edits.proofs.StaysFormed.{clear-stays}
 use Rattle.removals.specs.Removals.{vertex, hyperedge, removal}
-use Rattle.demands.specs.Numbers.{addVertex, addHyperedge, update, merge, remove, edit}
+use Rattle.calls.specs.Calls.{addVertex, addHyperedge, update, merge, remove, edit}
 use Rattle.neighbours.specs.Neighbours.{noneTwice, NoneTwice, Call, anEdit, clear, readText, call, mayBring}
 use Rattle.neighbours.proofs.Content.{vertex-added, hyperedge-added, hyperedge-updated, vertices-merged, hyperedge-removed}
 

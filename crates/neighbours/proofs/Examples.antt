@@ -26,7 +26,7 @@ use Rattle.frames.specs.Reading.{readResult}
 use Rattle.frames.specs.Faulty.{isWord}
 use Rattle.frame_laws.proofs.Held.{Worded}
 use Rattle.frame_laws.proofs.Written.{text-accepted, text-content}
-use Rattle.demands.specs.Numbers.{remove, edit}
+use Rattle.calls.specs.Calls.{remove, edit}
 use Rattle.neighbours.specs.Neighbours.{neighboursDiffer, noneTwice, Call, anEdit, readText, call, afterCalls, Brings, Between, Together}
 
 -- ---- the two tables

@@ -12,7 +12,7 @@ use Rattle.layout.specs.Answers.{Result}
 use Rattle.edits.specs.Results.{clearResult}
 use Rattle.removals.specs.Removals.{vertex, hyperedge}
 use Rattle.frames.specs.Reading.{readResult}
-use Rattle.demands.specs.Numbers.{Edit, addVertex, addHyperedge, update, merge, remove, edit}
+use Rattle.calls.specs.Calls.{Edit, addVertex, addHyperedge, update, merge, remove, edit}
 
 -- ---- the tables
 

@@ -1,0 +1,1 @@
+// Edits one call after the other. It has no code of its own.
