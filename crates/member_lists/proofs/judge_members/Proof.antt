@@ -1,5 +1,5 @@
 -- `member_lists::judge_members` meets its contract. Assumes nothing.
-use Rattle.edits.proofs.Refusals.{judged-empty, judged-long, judged-missing, judged-fine, missing-within}
+use Rattle.edits.proofs.Refusals.{judged-empty, judged-long, judged-missing, judged-live, missing-within}
 use borrow.Author.Needs.{needs}
 use Rattle.member_lists.proofs.judge_members.Statement.{statement}
 use Rattle.member_lists.proofs.judge_members.Tie as tie
@@ -25,11 +25,14 @@ shared-slice-read-v c = search missing-within
 enum-told : tie.Need-enum-told
 enum-told c = search needs
 
+judge-neighbours-requires : tie.Need-judge-neighbours-requires
+judge-neighbours-requires c κs = search needs
+
 returns-3 : tie.Need-returns-3
 returns-3 c = search judged-missing
 
 returns-4 : tie.Need-returns-4
-returns-4 c = search judged-fine
+returns-4 c = search judged-live
 
 pub judge-members-spec : {M : Type 1} → statement M
 judge-members-spec =
@@ -42,5 +45,6 @@ judge-members-spec =
     mul-v
     shared-slice-read-v
     enum-told
+    judge-neighbours-requires
     returns-3
     returns-4)
