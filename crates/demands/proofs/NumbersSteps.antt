@@ -84,23 +84,23 @@ module _ (ws : List ℕ) (formed : wellFormed limit ws ≡ true) where
   hyperedge-added : (k : Kind) (ms : List ℕ) (w : ℕ) → Moved k ws (edit (addHyperedge ms w) ws .lent) (givenBy k (addHyperedge ms w) ws)
   unfolding edit givenBy answered live nextNumber Edits.addHyperedge
   hyperedge-added vertices ms w =
-      add-hyperedge-goes (λ r. Moved vertices ws (r .lent) []) ws formed (λ a n. unchanged vertices) ms w (λ q x. unchanged vertices)
-      (λ q h. to-kept vertices ws _ h refl (λ x m. m))
+      add-hyperedge-goes (λ r. Moved vertices ws (r .lent) []) ws formed (λ a n. unchanged vertices) ms w (λ u q x. unchanged vertices)
+      (λ u q h. to-kept vertices ws _ h refl (λ x m. m))
   hyperedge-added hyperedges ms w =
       let found : Bool = any (identical ms w) (read limit ws .hyperedges) in
       add-hyperedge-goes (λ r. Moved hyperedges ws (r .lent) (cond found [] (answered r))) ws formed
       (λ a n. rw n (on found (λ q. rw q (unchanged hyperedges)) (λ q. rw q (unchanged hyperedges)))) ms w
-      (λ q x. rw q (unchanged hyperedges))
-      (λ q h. rw q (to-grown hyperedges ws _ h refl (add-hyperedge-live ms w (read limit ws))))
+      (λ u q x. rw q (unchanged hyperedges))
+      (λ u q h. rw q (to-grown hyperedges ws _ h refl (add-hyperedge-live ms w (read limit ws))))
 
   updated : (k : Kind) (x : ℕ) (ms : List ℕ) → Moved k ws (edit (update x ms) ws .lent) []
   unfolding edit live nextNumber Edits.updateHyperedge
   updated vertices x ms =
       update-goes (λ r. Moved vertices ws (r .lent) []) ws formed (λ a n. unchanged vertices) x ms
-      (λ h. to-kept vertices ws _ h refl (λ v m. m))
+      (λ u h. to-kept vertices ws _ h refl (λ v m. m))
   updated hyperedges x ms =
       update-goes (λ r. Moved hyperedges ws (r .lent) []) ws formed (λ a n. unchanged hyperedges) x ms
-      (λ h. to-kept hyperedges ws _ h refl (λ e m. rw (update-live x ms (read limit ws)) at m))
+      (λ u h. to-kept hyperedges ws _ h refl (λ e m. rw (update-live x ms (read limit ws)) at m))
 
   -- the vertices are the old ones but one, and the hyperedges' numbers are the old ones
   were-live : (k : Kind) (v w : ℕ) → (v ≡ w → ⊥) → (x : ℕ) → memb x (liveOf k (Edits.mergeVertices v w (read limit ws))) ≡ true → memb x (live k ws) ≡ true

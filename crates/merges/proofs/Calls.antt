@@ -15,13 +15,14 @@ use Rattle.layout.specs.Answers.{number, Result, result, onLive}
 use Rattle.layout.proofs.Answers.{formed-result}
 use Rattle.layout.proofs.Back.{read-words, read-holdable}
 use Rattle.edits.specs.Edits.{mergeVertices}
-use Rattle.edits.specs.Results.{onFirst, onOther, sideBySide, sideBySideIn, mergeResult}
+use Rattle.edits.specs.Results.{onFirst, byNumber, onOther, sideBySide, sideBySideIn, mergeResult}
 use Rattle.edits.proofs.Merged.{Mergeable, merge-holdable}
 use Rattle.edits.proofs.Outcomes.{merge-goes}
 use Rattle.merges.specs.Merges.{merged, Accepted}
 
 -- no hyperedge passes the test
-first-none : (p : Hyperedge → Bool) (answer : ℕ → Answer) (es : List Hyperedge) (lent : List ℕ) (r : Result) → any p es ≡ false → onFirst p answer es lent r ≡ r
+first-none : (p : Hyperedge → Bool) (answer : Hyperedge → Answer) (es : List Hyperedge) (lent : List ℕ) (r : Result)
+    → any p es ≡ false → onFirst p answer es lent r ≡ r
 unfolding onFirst any
 first-none p answer [] lent r q = refl
 first-none p answer (e ∷ es) lent r q = rw (or-false-left (p e) (any p es) q) (first-none p answer es lent r (or-false-right (p e) (any p es) q))
@@ -30,7 +31,7 @@ first-none p answer (e ∷ es) lent r q = rw (or-false-left (p e) (any p es) q) 
 merge-done : (v w : ℕ) (ws : List ℕ) (t : Table) → Mergeable v w t → mergeResult v w ws t ≡ result (Done 0) (words limit (mergeVertices v w t))
 unfolding mergeResult onLive onOther
 merge-done v w ws t m =
-    rw (m .kept-live, m .gone-live, ne-eqb v w (m .two)) (first-none (sideBySide v w) sideBySideIn (t .hyperedges) ws _ (m .apart))
+    rw (m .kept-live, m .gone-live, ne-eqb v w (m .two)) (first-none (sideBySide v w) (byNumber sideBySideIn) (t .hyperedges) ws _ (m .apart))
 
 -- what a result that is no refusal says
 Meets : ℕ → ℕ → Table → Result → Type 0

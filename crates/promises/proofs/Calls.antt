@@ -2,7 +2,7 @@
 -- is what the call's promise says that it leaves. Assumes nothing.
 use mathlib.Core.Path.{_≡_, refl}
 use mathlib.Core.Bool.{cond}
-use mathlib.Core.List.{List, [], _∷_, _++_}
+use mathlib.Core.List.{List, [], _∷_, _++_, append-nil}
 use Prim.Native.Nat.{ℕ}
 use lib.Dec.{eqb}
 use lib.ListN.{length, replicate}
@@ -32,8 +32,8 @@ use Rattle.walk.specs.Walk.{walk, walkResult}
 use Rattle.frames.specs.Frames.{frameText, writeResult}
 use Rattle.frames.specs.Reading.{contentOf, accepted, faultyLine, readResult}
 use Rattle.sort_sheet.specs.Sheet.{sheetResult}
-use Rattle.promises.specs.Refusals.{Judged, content, unformed, unsized, deadVertices, closedWalk, noRoom, addVertexGrounds, addHyperedgeGrounds, updateGrounds, vertexGrounds, mergeGrounds, hyperedgeGrounds, listingGrounds, intersectionsGrounds, sortGrounds, badText, readGrounds, sheetGrounds}
-use Rattle.promises.proofs.Refusals.{none-refused, off-ground, live-judged, some-judged, short-judged, room-judged, number-judged, new-judged, changed-judged, other-judged, apart-judged, several-judged, formed-judged, listed-judged}
+use Rattle.promises.specs.Refusals.{Judged, content, unformed, unsized, deadVertices, closedWalk, noRoom, beside, addVertexGrounds, addHyperedgeGrounds, updateGrounds, vertexGrounds, mergeGrounds, hyperedgeGrounds, listingGrounds, intersectionsGrounds, sortGrounds, badText, readGrounds, sheetGrounds}
+use Rattle.promises.proofs.Refusals.{none-refused, off-ground, live-judged, some-judged, short-judged, room-judged, number-judged, new-judged, changed-judged, other-judged, unequal-judged, apart-judged, several-judged, formed-judged, listed-judged}
 
 -- ---- edits
 
@@ -50,7 +50,8 @@ add-hyperedge-judged ms w ws =
     let t = read limit ws in
     let eight = number-judged (none-refused refl) (t .nextHyperedge) in
     let seven = room-judged eight (length (t .hyperedges)) hyperedgeLimit in
-    let three = live-judged (new-judged seven ms w (t .hyperedges)) (liveVertices t) vertexMissing ms in
+    let twenty = unequal-judged (new-judged seven ms w (t .hyperedges)) ms in
+    let three = live-judged twenty (liveVertices t) vertexMissing ms in
     formed-judged ws (addHyperedgeResult ms w ws) (some-judged (short-judged three ms) ms w)
 
 pub update-judged : (x : ℕ) (ms ws : List ℕ) → Judged (updateGrounds x ms ws) ws (onFormed ws ws (updateResult x ms ws))
@@ -58,7 +59,7 @@ unfolding updateResult
 update-judged x ms ws =
     let t = read limit ws in
     let four = live-judged (changed-judged (none-refused refl) x ms t) (liveHyperedges t) hyperedgeMissing (x ∷ []) in
-    let three = live-judged four (liveVertices t) vertexMissing ms in
+    let three = live-judged (unequal-judged four ms) (liveVertices t) vertexMissing ms in
     formed-judged ws (updateResult x ms ws) (some-judged (short-judged three ms) ms x)
 
 pub remove-vertex-judged : (v : ℕ) (ws : List ℕ) → Judged (vertexGrounds (v ∷ []) ws) ws (onFormed ws ws (removeVertexResult v ws))
@@ -70,7 +71,7 @@ pub merge-judged : (v w : ℕ) (ws : List ℕ) → Judged (mergeGrounds v w ws) 
 unfolding mergeResult
 merge-judged v w ws =
     let t = read limit ws in
-    let fourteen = apart-judged ws (result (Done 0) (words limit (mergeVertices v w t))) refl v w (t .hyperedges) in
+    let fourteen = rw (append-nil (beside v w t)) at (apart-judged (none-refused {lent = ws} {r = result (Done 0) (words limit (mergeVertices v w t))} refl) v w t) in
     let thirteen = other-judged fourteen v w in
     formed-judged ws (mergeResult v w ws) (live-judged thirteen (liveVertices t) vertexMissing (v ∷ w ∷ []))
 

@@ -14,10 +14,11 @@ use Rattle.layout.specs.declared.Answer.the-variants.{Done}
 use Rattle.layout.specs.Content.{Hyperedge, Table, isLive}
 use Rattle.layout.specs.Layout.{limit, read}
 use Rattle.layout.specs.WellFormed.{wellFormed}
+use Rattle.layout.specs.Steps.{stepsOf, sameEnds}
 use Rattle.layout.specs.Answers.{Result, result, onFormed, onLive, fits, listed}
-use Rattle.edits.specs.Results.{hasSome, onSome, isShort, onShort, hasRoom, onRoom, isSpent, onNumber, onFirst, onNew, equalsOld, onChanged, identical, isSame, onOther, sideBySide, onApart}
+use Rattle.edits.specs.Results.{hasSome, onSome, isShort, onShort, hasRoom, onRoom, isSpent, onNumber, onFirst, byNumber, onNew, equalsOld, onChanged, identical, isSame, onOther, sideBySide, sideBySideIn, onApart, twiceInARow, onUnequal}
 use Rattle.lookups.specs.Results.{isFew, onSeveral}
-use Rattle.promises.specs.Refusals.{Ground, first, Judged, unformed, noMembers, missing, sameMembers, tooMany, full, spent, tooFew, noRoom, sameVertex, besideIn, unless}
+use Rattle.promises.specs.Refusals.{Ground, first, Judged, unformed, noMembers, missing, sameMembers, tooMany, full, spent, tooFew, noRoom, sameVertex, beside, equalNext, unless}
 
 -- ---- what a judged call keeps to
 
@@ -102,11 +103,19 @@ module _ {gs : List Ground} {lent : List ℕ} {r : Result} (j : Judged gs lent r
   unfolding onSeveral
   several-judged xs = on-ground gs lent r j (tooFew xs) (isFew xs) refl
 
-pub apart-judged : (lent : List ℕ) (r : Result) → r .number ≡ 0 → (v w : ℕ) (es : List Hyperedge) → Judged (map (besideIn v w) es) lent (onApart v w es lent r)
-unfolding onFirst
-apart-judged lent r d v w [] = none-refused d
-apart-judged lent r d v w (e ∷ es) =
-    on-ground (map (besideIn v w) es) lent (onApart v w es lent r) (apart-judged lent r d v w es) (besideIn v w e) (sideBySide v w e) refl
+  -- a ground for each of a list
+  first-judged : {A : Type 0} (p : A → Bool) (answer : A → Answer) (xs : List A)
+      → Judged (map (λ x. record { answer = answer x; applies = p x }) xs ++ gs) lent (onFirst p answer xs lent r)
+  unfolding onFirst
+  first-judged p answer [] = j
+  first-judged p answer (x ∷ xs) =
+      on-ground _ lent (onFirst p answer xs lent r) (first-judged p answer xs) (record { answer = answer x; applies = p x }) (p x) refl
+
+  pub unequal-judged : (ms : List ℕ) → Judged (equalNext ms ++ gs) lent (onUnequal ms lent r)
+  unequal-judged ms = first-judged sameEnds twiceInARow (stepsOf ms)
+
+  pub apart-judged : (v w : ℕ) (t : Table) → Judged (beside v w t ++ gs) lent (onApart v w (t .hyperedges) lent r)
+  apart-judged v w t = first-judged (sideBySide v w) (byNumber sideBySideIn) (t .hyperedges)
 
 pub formed-judged : (ws : List ℕ) (f : Table → Result) {lent : List ℕ} {gs : List Ground} → Judged gs lent (f (read limit ws)) → Judged (unformed ws ∷ gs) lent (onFormed ws lent f)
 unfolding onFormed

@@ -13,8 +13,9 @@ use Rattle.layout.specs.declared.Answer.the-variants.{NotWellFormed, NoMembers,
 use Rattle.layout.specs.Content.{Hyperedge, Table, liveVertices, liveHyperedges, isLive}
 use Rattle.layout.specs.Layout.{vertexLimit, hyperedgeLimit, limit, size, read}
 use Rattle.layout.specs.WellFormed.{wellFormed}
+use Rattle.layout.specs.Steps.{Step, stepsOf, sameEnds}
 use Rattle.layout.specs.Answers.{Result, result, vertexMissing, hyperedgeMissing, fits}
-use Rattle.edits.specs.Results.{hasSome, isShort, hasRoom, isSpent, equalsOld, identical, isSame, sideBySide, sideBySideIn}
+use Rattle.edits.specs.Results.{hasSome, isShort, hasRoom, isSpent, equalsOld, identical, isSame, sideBySide, sideBySideIn, twiceInARow}
 use Rattle.lookups.specs.Results.{isFew}
 use Rattle.structural.specs.Sort.{sortOf, acyclic}
 use Rattle.frames.specs.Reading.{contentOf, accepted, faultyLine}
@@ -104,6 +105,14 @@ besideIn v w e = record { answer = sideBySideIn (e .number); applies = sideBySid
 abbrev pub beside : ℕ → ℕ → Table → List Ground
 beside v w t = map (besideIn v w) (t .hyperedges)
 
+-- 20: the list has equal neighbours at the place
+abbrev pub equalAt : Step → Ground
+equalAt s = record { answer = twiceInARow s; applies = sameEnds s }
+
+-- 20, for each place of the list that has one after it, in turn
+abbrev pub equalNext : List ℕ → List Ground
+equalNext ms = map equalAt (stepsOf ms)
+
 -- ---- the order for each call; ws are the table's words
 
 -- the content that stands in the words
@@ -119,19 +128,21 @@ addVertexGrounds ws =
 abbrev pub unless : Bool → Ground → Ground
 unless b g = record { answer = g .answer; applies = not b and g .applies }
 
--- add hyperedge 1, 2, 6, 3; then 7, 8, unless there is an identical one
+-- add hyperedge 1, 2, 6, 3, 20; then 7, 8, unless there is an identical one
 abbrev pub addHyperedgeGrounds : List ℕ → ℕ → List ℕ → List Ground
 addHyperedgeGrounds ms w ws =
     let t = content ws in
     unformed ws ∷ noMembers ms w ∷ tooMany ms
     ∷ (deadVertices t ms
-    ++ map (unless (any (identical ms w) (t .hyperedges))) (full (length (t .hyperedges)) hyperedgeLimit ∷ spent (t .nextHyperedge) ∷ []))
+    ++ (equalNext ms
+    ++ map (unless (any (identical ms w) (t .hyperedges))) (full (length (t .hyperedges)) hyperedgeLimit ∷ spent (t .nextHyperedge) ∷ [])))
 
--- update 1, 2, 6, 3, 4, 5
+-- update 1, 2, 6, 3, 20, 4, 5
 abbrev pub updateGrounds : ℕ → List ℕ → List ℕ → List Ground
 updateGrounds x ms ws =
     let t = content ws in
-    unformed ws ∷ noMembers ms x ∷ tooMany ms ∷ (deadVertices t ms ++ (deadHyperedges t (x ∷ []) ++ (sameMembers x ms t ∷ [])))
+    unformed ws ∷ noMembers ms x ∷ tooMany ms
+    ∷ (deadVertices t ms ++ (equalNext ms ++ (deadHyperedges t (x ∷ []) ++ (sameMembers x ms t ∷ []))))
 
 -- remove vertex 1, 3; queries 1, then the first argument before the second
 abbrev pub vertexGrounds : List ℕ → List ℕ → List Ground

@@ -18,6 +18,7 @@ fn show(name: &[u8]) {
 fn main() {
     show(b"example");
     show(b"closed_walk");
+    show(b"twice_in_a_row");
     show(b"damaged");
     show(b"empty");
     show(b"full");
