@@ -372,7 +372,7 @@ fn compare(seed: u64) {
         run.sequence(&mut draw, 3 + round % 12, 190, true);
     }
     for round in 0..40 {
-        run.sequence(&mut draw, 1 + 6 * round, 3150, false);
+        run.sequence(&mut draw, 1 + 6 * round, 3450, false);
     }
     for round in 0..300 {
         run.additions(&mut draw, 2 + round % 14, 1 + round % 11, 2 + round % 6, round % 3 == 0);
