@@ -156,7 +156,7 @@ static void judge_add_vertex(const content *c, const arguments *a, verdict *v) {
     say(v, 0, c->next_vertex);
 }
 
-/* 2, 6 and 3 for a list of members; whether none of them is said. */
+/* 2, 6, 3 and 20 for a list of members; whether none of them is said. */
 static bool good_members(const content *c, const arguments *a, verdict *v) {
     if (a->count == 0)
         return say(v, 2, a->x), false;
@@ -165,6 +165,9 @@ static bool good_members(const content *c, const arguments *a, verdict *v) {
     EACH(i, (int)a->count)
         if (live_vertex(c, a->list[i], v) < 0)
             return false;
+    EACH(i, (int)a->count - 1)
+        if (a->list[i] == a->list[i + 1])
+            return say(v, 20, a->list[i]), false;
     return true;
 }
 

@@ -9,7 +9,7 @@
 #include "judge.h"
 #include "tables.h"
 
-enum { MARGIN = 64, PAINT = 0xA5, NUMBERS_OF_ANSWERS = 15, MOST_SHOWN = 20, MOST_LIST = 8000, MOST_TEXT = 80000, LONGEST_TRIED = 400 };
+enum { MARGIN = 64, PAINT = 0xA5, NUMBERS_OF_ANSWERS = 21, MOST_SHOWN = 20, MOST_LIST = 8000, MOST_TEXT = 80000, LONGEST_TRIED = 400 };
 
 static uint64_t counts[COUNT_OF_FUNCTIONS][NUMBERS_OF_ANSWERS], differing[COUNT_OF_FUNCTIONS];
 static int shown;
@@ -134,9 +134,10 @@ static void throw_with_rooms(int f) {
     throw_with_room(f, needed + 100);
 }
 
-/* ---- Tables: small, full, full without closed walks, empty, with gaps, with no number left, with many paths of one cost */
+/* ---- Tables: small, full, full without closed walks, empty, with gaps, with no number left, with many paths of one cost, with every member
+ * twice in a row */
 
-static uint32_t small[TABLE], full[TABLE], forward[TABLE], empty[TABLE], gapped[TABLE], spent[TABLE], ties[TABLE];
+static uint32_t small[TABLE], full[TABLE], forward[TABLE], empty[TABLE], gapped[TABLE], spent[TABLE], ties[TABLE], doubled[TABLE];
 
 /* So many vertices and hyperedges, with numbers that lie 1 to `gap` apart, and lists of 1 to `longest` members, of vertices one after the
  * other where no steps may form a closed walk. */
@@ -160,6 +161,16 @@ static void fill_part(uint32_t *t, uint32_t n, uint32_t m, uint32_t gap, uint32_
     t[3] = m;
 }
 
+/* Gives each member of the lists twice in a row. */
+static void double_members(uint32_t *t) {
+    for (uint32_t j = 0; j < t[3]; j++) {
+        uint32_t *record = t + 516 + 35 * j;
+        record[2] *= 2;
+        for (uint32_t i = record[2]; i-- > 0;)
+            record[3 + i] = record[3 + i / 2];
+    }
+}
+
 static void fill_all(void) {
     fill_part(small, 8, 6, 1, 5, false);
     fill_part(gapped, 40, 30, 9, 32, false);
@@ -168,6 +179,8 @@ static void fill_all(void) {
     fill_part(ties, 30, 90, 2, 4, false);
     for (int j = 0; j < 90; j++)
         ties[516 + 35 * j + 1] = 1;
+    fill_part(doubled, 12, 16, 2, 6, false);
+    double_members(doubled);
     fill_dense(full);
     fill_ascending(forward);
 }
@@ -240,6 +253,42 @@ static void throw_lists(int f) {
     }
 }
 
+/* The list with another number at a place. */
+static void throw_with(int f, const uint32_t *list, size_t count, size_t place, uint32_t number) {
+    static uint32_t changed[MOST_LIST];
+    memcpy(changed, list, 4 * count);
+    changed[place] = number;
+    lend_list(changed, count);
+    throw_list(f);
+}
+
+/* A list with equal neighbours at a place: alone, with the last two equal as well, with a missing number before them, and with the same
+ * member or a missing number behind them. */
+static void throw_pair(int f, const uint32_t *list, size_t count, size_t at) {
+    lend_list(list, count);
+    throw_list(f);
+    throw_with(f, list, count, count - 1, list[count - 2]);
+    if (at > 0)
+        throw_with(f, list, count, at - 1, UINT32_MAX);
+    if (at + 2 < count) {
+        throw_with(f, list, count, at + 2, list[at]);
+        throw_with(f, list, count, at + 2, UINT32_MAX);
+    }
+}
+
+/* Lists of live numbers with equal neighbours at each place. */
+static void throw_neighbours(int f) {
+    static const size_t lengths[] = {2, 3, 4, 16, 31, 32, 33, 34};
+    static uint32_t list[34];
+    for (size_t k = 0; k < sizeof lengths / sizeof *lengths; k++)
+        for (size_t at = 0; at + 1 < lengths[k]; at++) {
+            for (size_t i = 0; i < lengths[k]; i++)
+                list[i] = held.n == 0 ? 0 : held.vertex[i % (size_t)held.n];
+            list[at + 1] = list[at];
+            throw_pair(f, list, lengths[k], at);
+        }
+}
+
 /* The lists that the table has, with the weight they have and another: identical adds, unchanged updates. */
 static void throw_own_lists(int f) {
     for (int j = 0; j < held.m; j++) {
@@ -289,8 +338,10 @@ static void throw_arguments(void) {
         int some = takes & HYPEREDGE ? hyperedges_asked : takes & (VERTEX | WEIGHT) ? vertices_asked : 1;
         if (takes & (MEMBERS_LIST | HYPEREDGES_LIST)) {
             throw_lists(f);
-            if (takes & MEMBERS_LIST)
+            if (takes & MEMBERS_LIST) {
+                throw_neighbours(f);
                 throw_own_lists(f);
+            }
             continue;
         }
         for (int k = 0; k < some; k++)
@@ -312,7 +363,7 @@ static size_t good_bytes;
 /* Every function once on the table in hand. The arguments are good ones of the table `kept` was made from, or (`bad`) such that a later
  * refusal would come if the table's did not. */
 static void throw_every(bool bad) {
-    static const uint32_t good_list[] = {0, 0}, bad_list[] = {UINT32_MAX, UINT32_MAX};
+    static const uint32_t good_list[] = {0, 1}, bad_list[] = {UINT32_MAX, UINT32_MAX};
     lent.x = bad ? UINT32_MAX : 0;
     lent.y = bad ? UINT32_MAX : 1;
     lent.size = 3;
@@ -477,18 +528,23 @@ static void throw_texts(const uint32_t *table) {
 
 /* ---- The report */
 
+/* Whether some function has an answer of the number. */
+static bool is_answer(int number) { return number <= 14 || number == 20; }
+
 static int report(void) {
     uint64_t calls = 0, wrong = 0;
     printf("%-36s", "function \\ answer");
     for (int k = 0; k < NUMBERS_OF_ANSWERS; k++)
-        printf(" %7d", k);
+        if (is_answer(k))
+            printf(" %7d", k);
     printf("  %s\n", "differing");
     for (int f = 0; f < COUNT_OF_FUNCTIONS; f++) {
         printf("%-36s", functions[f].name);
-        for (int k = 0; k < NUMBERS_OF_ANSWERS; k++) {
-            printf(" %7llu", (unsigned long long)counts[f][k]);
-            calls += counts[f][k];
-        }
+        for (int k = 0; k < NUMBERS_OF_ANSWERS; k++)
+            if (is_answer(k)) {
+                printf(" %7llu", (unsigned long long)counts[f][k]);
+                calls += counts[f][k];
+            }
         printf("  %llu\n", (unsigned long long)differing[f]);
         wrong += differing[f];
     }
@@ -501,8 +557,8 @@ int main(void) {
         const char *name;
         uint32_t *table;
         bool all;
-    } tables[] = {{"small", small, true},       {"full", full, false},   {"empty", empty, true}, {"gapped", gapped, false},
-                  {"forward", forward, false}, {"spent", spent, false}, {"ties", ties, false}};
+    } tables[] = {{"small", small, true},      {"full", full, false},   {"empty", empty, true}, {"gapped", gapped, false},
+                  {"forward", forward, false}, {"spent", spent, false}, {"ties", ties, false},  {"doubled", doubled, false}};
     memset(painted, PAINT, sizeof painted);
     table_end = memory(4 * 2 * TABLE);
     list_end = memory(4 * MOST_LIST);

@@ -20,6 +20,7 @@
  *   12  the frame text is bad                           detail: the first line that no written text could have there
  *   13  a vertex is merged into itself                  detail: the vertex
  *   14  vertices to merge stand side by side            detail: the lowest hyperedge in which they do
+ *   20  the member list has two equal neighbours        detail: the first member that equals the one after it
  *
  * Where a call is done, the detail is the number given (adds), 1 or 0 (yes or no), the count (degrees), the words or bytes
  * written (listings), else 0. A listing is written from the front of the slice, and the rest of the slice is kept.
@@ -57,10 +58,10 @@ typedef struct {
 /* A new vertex. Refusals 1, 7, 8. */
 vs_reply vs_add_vertex(uint32_t *table, size_t table_words, uint32_t weight);
 
-/* A new hyperedge; where an identical one is live, its number. Refusals 1, 2, 6, 3, 7, 8. */
+/* A new hyperedge; where an identical one is live, its number. Refusals 1, 2, 6, 3, 20; where no identical one is live also 7, 8. */
 vs_reply vs_add_hyperedge(uint32_t *table, size_t table_words, const uint32_t *members, size_t count, uint32_t weight);
 
-/* Another member list; the weight is kept. Refusals 1, 2, 6, 3, 4, 5. */
+/* Another member list; the weight is kept. Refusals 1, 2, 6, 3, 20, 4, 5. */
 vs_reply vs_update_hyperedge_vertices(uint32_t *table, size_t table_words, vs_hyperedge hyperedge, const uint32_t *members,
                                       size_t count);
 

@@ -20,6 +20,9 @@ int main(void) {
     for (uint64_t i = 0; i < r.detail; i++)
         printf("%u\n", sorted[i]);
 
+    r = vs_add_hyperedge(table, VS_TABLE_WORDS, (const uint32_t[]){2, 4, 4}, 3, 1);
+    printf("a list with 4 twice in a row: refused %u, vertex %u\n", r.number, (unsigned)r.detail);
+
     r = vs_merge_vertices(table, VS_TABLE_WORDS, (vs_vertex){1}, (vs_vertex){3});
     printf("3 merged into 1: answer %u\n", r.number);
     r = vs_merge_vertices(table, VS_TABLE_WORDS, (vs_vertex){1}, (vs_vertex){0});

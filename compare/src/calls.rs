@@ -2,7 +2,11 @@
 use hypergraph::HypergraphQuery;
 use vaultsorrel::{Answer, Hyperedge, TABLE_WORDS, Vertex};
 
+use crate::frames;
 use crate::oracle::{self, Graph, Reply, done, listed, reply};
+
+/// How many bytes the longest frame text has.
+const LONGEST_TEXT: usize = 58_977;
 
 #[derive(Clone, Debug)]
 pub enum Edit {
@@ -13,6 +17,8 @@ pub enum Edit {
     MergeVertices(u32, u32),
     RemoveHyperedge(u32),
     Clear,
+    /// An add or update that is refused here for equal neighbours: the table after it is read from a text.
+    ByText(Box<Edit>),
 }
 
 #[derive(Clone, Debug)]
@@ -74,6 +80,11 @@ pub struct Both {
     out: Vec<u32>,
 }
 
+/// The first member that equals the one after it.
+pub fn twice_in_a_row(list: &[u32]) -> Option<u32> {
+    list.windows(2).find(|pair| pair[0] == pair[1]).map(|pair| pair[0])
+}
+
 fn ours(answer: Answer, out: &[u32], lists: bool) -> Reply {
     match answer {
         Ok(detail) if lists => Reply {
@@ -99,26 +110,59 @@ impl Both {
         }
     }
 
-    /// Whether the edit is one that the rules compare: within the limits, at most one hyperedge identical to an added one, and a merge of
-    /// two vertices after which no list that it changes has equal neighbours, or one that is refused for a vertex that is not live.
+    fn is_live(&self, v: u32) -> bool {
+        self.graph.get_vertex_weight(oracle::vertex(v)).is_ok()
+    }
+
+    /// How many live hyperedges have the list and the weight.
+    fn identical(&self, list: &[u32], weight: u32) -> usize {
+        let list = oracle::vertices(list);
+        let same = |e| self.graph.get_hyperedge_vertices(e).is_ok_and(|ms| ms == list);
+        self.graph
+            .hyperedges_iter()
+            .filter(|(e, w)| **w == weight as usize && same(*e))
+            .count()
+    }
+
+    /// The vertex of answer 20, where that is due here: the list handed in has equal neighbours, and no earlier refusal applies.
+    pub fn equal_neighbour(&self, edit: &Edit) -> Option<u32> {
+        match edit {
+            Edit::AddHyperedge(list, _) | Edit::UpdateHyperedgeVertices(_, list)
+                if list.len() <= 32 && list.iter().all(|&v| self.is_live(v)) =>
+            {
+                twice_in_a_row(list)
+            }
+            _ => None,
+        }
+    }
+
+    /// Whether the Rust makes another table by the edit, an add or update, and the table is within the limits.
+    fn changes_rust(&self, edit: &Edit) -> bool {
+        match edit {
+            Edit::AddHyperedge(list, weight) => self.graph.count_hyperedges() < 192 && self.identical(list, *weight) == 0,
+            Edit::UpdateHyperedgeVertices(e, list) => self
+                .graph
+                .get_hyperedge_vertices(oracle::hyperedge(*e))
+                .is_ok_and(|ms| ms != oracle::vertices(list)),
+            _ => false,
+        }
+    }
+
+    /// Whether the edit is one that the rules compare: within the limits, no list that is refused here for equal neighbours, at most one
+    /// hyperedge identical to an added one, and a merge of two vertices after which no list that it changes has equal neighbours, or one
+    /// that is refused for a vertex that is not live. By text: an edit that is refused here for equal neighbours and changes the Rust.
     pub fn compared(&self, edit: &Edit) -> bool {
         match edit {
             Edit::AddVertex(_) => self.graph.count_vertices() < 256,
             Edit::AddHyperedge(list, weight) => {
-                let same = self.graph.hyperedges_iter().filter(|(e, w)| {
-                    **w == *weight as usize
-                        && self
-                            .graph
-                            .get_hyperedge_vertices(*e)
-                            .is_ok_and(|ms| ms == oracle::vertices(list))
-                });
-                list.len() <= 32 && self.graph.count_hyperedges() < 192 && same.count() < 2
+                list.len() <= 32
+                    && self.equal_neighbour(edit).is_none()
+                    && self.graph.count_hyperedges() < 192
+                    && self.identical(list, *weight) < 2
             }
-            Edit::UpdateHyperedgeVertices(_, list) => list.len() <= 32,
-            Edit::MergeVertices(v, w) => {
-                let live = |x: u32| self.graph.get_vertex_weight(oracle::vertex(x)).is_ok();
-                !live(*v) || !live(*w) || (v != w && self.merges_apart(*v, *w))
-            }
+            Edit::UpdateHyperedgeVertices(_, list) => list.len() <= 32 && self.equal_neighbour(edit).is_none(),
+            Edit::MergeVertices(v, w) => !self.is_live(*v) || !self.is_live(*w) || (v != w && self.merges_apart(*v, *w)),
+            Edit::ByText(edit) => self.equal_neighbour(edit).is_some() && self.changes_rust(edit),
             _ => true,
         }
     }
@@ -128,7 +172,7 @@ impl Both {
         self.graph.hyperedges_iter().all(|(e, _)| {
             let list = oracle::numbers(self.graph.get_hyperedge_vertices(e).expect("live"));
             let after: Vec<u32> = list.iter().map(|&x| if x == w { v } else { x }).collect();
-            !list.contains(&w) || after.windows(2).all(|pair| pair[0] != pair[1])
+            !list.contains(&w) || twice_in_a_row(&after).is_none()
         })
     }
 
@@ -140,38 +184,57 @@ impl Both {
 
     /// Makes the edit on both sides: the two replies.
     pub fn replies(&mut self, edit: &Edit) -> (Reply, Reply) {
-        let (t, g) = (&mut self.table, &mut self.graph);
-        let (ours_is, rust) = match edit {
-            Edit::AddVertex(w) => (vaultsorrel::add_vertex(t, *w), done(g.add_vertex(*w as usize).0 as u64)),
-            Edit::AddHyperedge(list, w) => (
-                vaultsorrel::add_hyperedge(t, list, *w),
-                reply(g.add_hyperedge(oracle::vertices(list), *w as usize), |e| done(e.0 as u64)),
+        (self.ours_edit(edit), self.rust_edit(edit))
+    }
+
+    /// Makes the edit here.
+    pub fn ours_edit(&mut self, edit: &Edit) -> Reply {
+        let t = &mut self.table;
+        let answer = match edit {
+            Edit::AddVertex(w) => vaultsorrel::add_vertex(t, *w),
+            Edit::AddHyperedge(list, w) => vaultsorrel::add_hyperedge(t, list, *w),
+            Edit::UpdateHyperedgeVertices(e, list) => vaultsorrel::update_hyperedge_vertices(t, Hyperedge(*e), list),
+            Edit::RemoveVertex(v) => vaultsorrel::remove_vertex(t, Vertex(*v)),
+            Edit::MergeVertices(v, w) => vaultsorrel::merge_vertices(t, Vertex(*v), Vertex(*w)),
+            Edit::RemoveHyperedge(e) => vaultsorrel::remove_hyperedge(t, Hyperedge(*e)),
+            Edit::Clear => vaultsorrel::clear(t),
+            Edit::ByText(edit) => self.read_after(edit),
+        };
+        ours(answer, &self.out, false)
+    }
+
+    /// Reads the table after an add or update from the text of the table before it, changed by one line and the head.
+    fn read_after(&mut self, edit: &Edit) -> Answer {
+        let mut bytes = vec![0; LONGEST_TEXT];
+        let count = vaultsorrel::write_frames(&self.table, &mut bytes)?;
+        let text = std::str::from_utf8(&bytes[..count as usize]).expect("digits and line feeds");
+        let after = match edit {
+            Edit::AddHyperedge(list, weight) => frames::with_hyperedge(text, list, *weight),
+            Edit::UpdateHyperedgeVertices(e, list) => frames::with_list(text, *e, list),
+            other => unreachable!("{other:?}"),
+        };
+        vaultsorrel::read_frames(&mut self.table, after.as_bytes())
+    }
+
+    /// Makes the edit on the Rust.
+    fn rust_edit(&mut self, edit: &Edit) -> Reply {
+        let g = &mut self.graph;
+        match edit {
+            Edit::AddVertex(w) => done(g.add_vertex(*w as usize).0 as u64),
+            Edit::AddHyperedge(list, w) => reply(g.add_hyperedge(oracle::vertices(list), *w as usize), |e| done(e.0 as u64)),
+            Edit::UpdateHyperedgeVertices(e, list) => reply(
+                g.update_hyperedge_vertices(oracle::hyperedge(*e), oracle::vertices(list)),
+                |()| done(0),
             ),
-            Edit::UpdateHyperedgeVertices(e, list) => (
-                vaultsorrel::update_hyperedge_vertices(t, Hyperedge(*e), list),
-                reply(
-                    g.update_hyperedge_vertices(oracle::hyperedge(*e), oracle::vertices(list)),
-                    |()| done(0),
-                ),
-            ),
-            Edit::RemoveVertex(v) => (
-                vaultsorrel::remove_vertex(t, Vertex(*v)),
-                reply(g.remove_vertex(oracle::vertex(*v)), |()| done(0)),
-            ),
-            Edit::MergeVertices(v, w) => (
-                vaultsorrel::merge_vertices(t, Vertex(*v), Vertex(*w)),
-                reply(g.merge_vertices(&oracle::vertices(&[*v, *w])), |()| done(0)),
-            ),
-            Edit::RemoveHyperedge(e) => (
-                vaultsorrel::remove_hyperedge(t, Hyperedge(*e)),
-                reply(g.remove_hyperedge(oracle::hyperedge(*e)), |()| done(0)),
-            ),
+            Edit::RemoveVertex(v) => reply(g.remove_vertex(oracle::vertex(*v)), |()| done(0)),
+            Edit::MergeVertices(v, w) => reply(g.merge_vertices(&oracle::vertices(&[*v, *w])), |()| done(0)),
+            Edit::RemoveHyperedge(e) => reply(g.remove_hyperedge(oracle::hyperedge(*e)), |()| done(0)),
             Edit::Clear => {
                 g.clear();
-                (vaultsorrel::clear(t), done(0))
+                done(0)
             }
-        };
-        (ours(ours_is, &self.out, false), rust)
+            Edit::ByText(edit) => self.rust_edit(edit),
+        }
     }
 
     pub fn ours(&mut self, query: &Query) -> Reply {

@@ -76,8 +76,8 @@ fn map_order() {
     orphans_in_order();
     let moved = [Edit::UpdateHyperedgeVertices(2, vec![0]), Edit::RemoveHyperedge(0)];
     run_one(
-        "[1], [0], [0,0], all weight 0, update 2 to [0], remove 0; add [0] weight 0",
-        &table(2, &[(&[1], 0), (&[0], 0), (&[0, 0], 0)], &moved),
+        "[1], [0], [0,1], all weight 0, update 2 to [0], remove 0; add [0] weight 0",
+        &table(2, &[(&[1], 0), (&[0], 0), (&[0, 1], 0)], &moved),
         Last::Edit(Edit::AddHyperedge(vec![0], 0)),
     );
     let moved = [Edit::UpdateHyperedgeVertices(0, vec![0, 1])];
@@ -118,14 +118,15 @@ fn held(table: &[u32]) -> String {
     format!("vertices {vertices:?}, lists {lists:?}")
 }
 
-/// A merge of w into v: what each side answers, and what it holds after it.
-fn merge(n: u32, list: &[u32], v: u32, w: u32) {
+/// A merge of w into v, after vertices were removed: what each side answers, and what it holds after it.
+fn merge(n: u32, list: &[u32], gone: &[u32], v: u32, w: u32) {
+    let removals: Vec<Edit> = gone.iter().map(|&x| Edit::RemoveVertex(x)).collect();
     let mut both = Both::new();
-    for edit in table(n, &[(list, 0)], &[]) {
+    for edit in table(n, &[(list, 0)], &removals) {
         both.replies(&edit);
     }
     let (ours, rust) = both.replies(&Edit::MergeVertices(v, w));
-    println!("vertices below {n}, {list:?}; merge {w} into {v}");
+    println!("vertices below {n}, {list:?}, remove {gone:?}; merge {w} into {v}");
     println!(
         "  Rust answer {} {}, {}",
         rust.number,
@@ -137,11 +138,11 @@ fn merge(n: u32, list: &[u32], v: u32, w: u32) {
 
 /// Where the Rust takes equal neighbours out of the lists that a merge changes, and a vertex merged into itself.
 fn merges() {
-    merge(2, &[0, 1], 0, 1);
-    merge(2, &[1, 0], 0, 1);
-    merge(2, &[1, 1], 0, 1);
-    merge(3, &[2, 2, 1], 0, 1);
-    merge(1, &[0], 0, 0);
+    merge(2, &[0, 1], &[], 0, 1);
+    merge(2, &[1, 0], &[], 0, 1);
+    merge(3, &[1, 2, 1], &[2], 0, 1);
+    merge(4, &[2, 3, 2, 1], &[3], 0, 1);
+    merge(1, &[0], &[], 0, 0);
     run_one(
         "[1], [0,2], both weight 1, merge 1 into 0; a walk from 0 of 3 steps, seed 1",
         &table(3, &[(&[1], 1), (&[0, 2], 1)], &[Edit::MergeVertices(0, 1)]),
@@ -149,8 +150,25 @@ fn merges() {
     );
 }
 
+/// Where a list that is handed in has equal neighbours.
+fn neighbours() {
+    let twice = Edit::AddHyperedge(vec![0, 0], 0);
+    run_one("one vertex; add [0,0]", &vertices(1), Last::Edit(twice.clone()));
+    run_one(
+        "one vertex, [0]; update 0 to [0,0]",
+        &table(1, &[(&[0], 0)], &[]),
+        Last::Edit(Edit::UpdateHyperedgeVertices(0, vec![0, 0])),
+    );
+    run_one(
+        "two vertices, [0,1,0] weight 0, remove 1; add [0,0] weight 0",
+        &table(2, &[(&[0, 1, 0], 0)], &[Edit::RemoveVertex(1)]),
+        Last::Edit(twice),
+    );
+}
+
 pub fn run() {
     limits();
+    neighbours();
     map_order();
     paths();
     merges();

@@ -84,12 +84,17 @@ impl Draw {
         }
     }
 
-    /// So many of the numbers; where the list is to ascend, each at most once.
+    /// So many of the numbers, no two equal ones in a row; where the list is to ascend, each at most once.
     pub fn members(&mut self, numbers: &[u32], count: usize, ascending: bool) -> Vec<u32> {
         let mut list = Vec::new();
         while list.len() < count {
             let number = numbers[self.below(numbers.len() as u32) as usize];
-            if !ascending || !list.contains(&number) {
+            let taken = if ascending {
+                list.contains(&number)
+            } else {
+                list.last() == Some(&number)
+            };
+            if !taken {
                 list.push(number);
             }
         }

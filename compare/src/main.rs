@@ -1,26 +1,32 @@
 //! Runs the proved code and the Rust on the same inputs and prints, for each function, how many answers were compared, how many of them
-//! were refusals, how many calls were left out, and how many answers differed; for each difference the smallest input that was found.
+//! were refusals, how many calls were left out, how many of these for equal neighbours and with the table then read from a text, and how many
+//! answers differed; for each difference the smallest input that was found.
 mod bench;
 mod calls;
 mod differences;
 mod draw;
+mod frames;
 mod oracle;
 mod record;
 
 use std::collections::BTreeMap;
 use std::path::Path;
 
+use hypergraph::HypergraphQuery;
+
 use calls::{Both, Edit, Query, name};
 use draw::Draw;
 use oracle::Reply;
 
-/// How many answers were compared, how many of these were refusals and how many differed, and how many calls were left out, on both sides,
-/// as ones that the rules do not compare.
+/// How many answers were compared, and how many of these were refusals; how many calls were left out, as ones that the rules do not compare,
+/// how many of these for equal neighbours, and after how many of those the table was read from a text; and how many answers or tables differed.
 #[derive(Default)]
 struct Counts {
     compared: u64,
     refused: u64,
     left_out: u64,
+    equal: u64,
+    by_text: u64,
     differing: u64,
 }
 
@@ -75,12 +81,46 @@ impl Run {
 
     fn edit(&mut self, both: &mut Both, edits: &mut Vec<Edit>, edit: Edit) {
         if !both.compared(&edit) {
-            self.counts.entry(name(&edit)).or_default().left_out += 1;
-            return;
+            return self.left_out(both, edits, &edit);
         }
         let (a, b, same) = both.edit(&edit);
         let differs = a != b || !same;
         self.count(name(&edit), &b, differs);
+        edits.push(edit);
+        if differs {
+            self.show(|| format!("differs: {edits:?}\n  ours {a:?}\n  Rust {b:?}, tables the same: {same}"));
+        }
+    }
+
+    /// An edit that the rules do not compare. One with equal neighbours is made here alone: 20 with the first of them is due, and the table
+    /// as it was.
+    fn left_out(&mut self, both: &mut Both, edits: &[Edit], edit: &Edit) {
+        let counts = self.counts.entry(name(edit)).or_default();
+        counts.left_out += 1;
+        let Some(v) = both.equal_neighbour(edit) else { return };
+        counts.equal += 1;
+        let before = both.table.clone();
+        let a = both.ours_edit(edit);
+        let same = both.table == before;
+        if (a.number, a.detail) != (20, v.into()) || !same {
+            counts.differing += 1;
+            self.show(|| format!("not refused: {edit:?} after {edits:?}\n  ours {a:?}, the table as it was: {same}"));
+        }
+        both.table = before;
+    }
+
+    /// The table after an edit that was left out for equal neighbours, on both sides, where the Rust has one: here it is read from a text.
+    fn by_text(&mut self, both: &mut Both, edits: &mut Vec<Edit>, edit: Edit) {
+        let name = name(&edit);
+        let edit = Edit::ByText(Box::new(edit));
+        if !both.compared(&edit) {
+            return;
+        }
+        let (a, b, same) = both.edit(&edit);
+        let differs = a.number != 0 || b.number != 0 || !same;
+        let counts = self.counts.entry(name).or_default();
+        counts.by_text += 1;
+        counts.differing += u64::from(differs);
         edits.push(edit);
         if differs {
             self.show(|| format!("differs: {edits:?}\n  ours {a:?}\n  Rust {b:?}, tables the same: {same}"));
@@ -211,6 +251,7 @@ impl Run {
         let mut done = Vec::new();
         for edit in edits {
             self.edit(&mut both, &mut done, edit.clone());
+            self.by_text(&mut both, &mut done, edit.clone());
         }
         self.everything(&mut both, &done, vertices, hyperedges);
         self.merges(&mut both, &done, vertices);
@@ -238,7 +279,10 @@ impl Run {
         let mut fresh = 1000 + n;
         for _ in 0..edits_to_make {
             let edit = draw.edit(&both, &mut fresh);
-            self.edit(&mut both, &mut edits, edit);
+            self.edit(&mut both, &mut edits, edit.clone());
+            if draw.below(2) == 0 {
+                self.by_text(&mut both, &mut edits, edit);
+            }
             if queries {
                 self.drawn(draw, &mut both, &edits);
             }
@@ -265,9 +309,12 @@ impl Run {
         for v in 0..n {
             self.edit(&mut both, &mut edits, Edit::AddVertex(7 * v + 3));
         }
-        for _ in 0..m {
+        while both.graph.count_hyperedges() < m as usize {
             let edit = draw.addition(n, members, acyclic);
-            self.edit(&mut both, &mut edits, edit);
+            self.edit(&mut both, &mut edits, edit.clone());
+            if draw.below(2) == 0 {
+                self.by_text(&mut both, &mut edits, edit);
+            }
         }
         self.whole(&mut both, &edits);
         for _ in 0..12 {
@@ -309,8 +356,8 @@ fn main() {
 
 fn row(name: &str, counts: &Counts) {
     println!(
-        "{:<42} {:>12} {:>10} {:>10} {:>10}",
-        name, counts.compared, counts.refused, counts.left_out, counts.differing
+        "{:<42} {:>12} {:>10} {:>10} {:>10} {:>10} {:>10}",
+        name, counts.compared, counts.refused, counts.left_out, counts.equal, counts.by_text, counts.differing
     );
 }
 
@@ -325,7 +372,7 @@ fn compare(seed: u64) {
         run.sequence(&mut draw, 3 + round % 12, 190, true);
     }
     for round in 0..40 {
-        run.sequence(&mut draw, 1 + 6 * round, 3150, false);
+        run.sequence(&mut draw, 1 + 6 * round, 3450, false);
     }
     for round in 0..300 {
         run.additions(&mut draw, 2 + round % 14, 1 + round % 11, 2 + round % 6, round % 3 == 0);
@@ -334,8 +381,8 @@ fn compare(seed: u64) {
         run.additions(&mut draw, 256, 192, 32, acyclic);
     }
     println!(
-        "{:<42} {:>12} {:>10} {:>10} {:>10}",
-        "function", "compared", "refused", "left out", "differing"
+        "{:<42} {:>12} {:>10} {:>10} {:>10} {:>10} {:>10}",
+        "function", "compared", "refused", "left out", "for 20", "by text", "differing"
     );
     let mut all = Counts::default();
     for (name, counts) in &run.counts {
@@ -343,6 +390,8 @@ fn compare(seed: u64) {
         all.compared += counts.compared;
         all.refused += counts.refused;
         all.left_out += counts.left_out;
+        all.equal += counts.equal;
+        all.by_text += counts.by_text;
         all.differing += counts.differing;
     }
     row("all", &all);

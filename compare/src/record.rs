@@ -1,6 +1,8 @@
 //! Records answers of the Rust for the programs `replay_*`, which make the same calls of the proved code without it. `README.md` has the form.
 use std::path::Path;
 
+use hypergraph::HypergraphQuery;
+
 use crate::calls::{Both, Edit, Query};
 use crate::draw::Draw;
 use crate::oracle::{self, Reply};
@@ -31,6 +33,21 @@ fn sum_of_rows(mut words: &[u32]) -> u64 {
         words = rest;
     }
     total
+}
+
+/// The weight of a vertex that stands between equal neighbours: no other vertex has it.
+const BETWEEN: u32 = 0;
+
+/// The list with a vertex put between each two equal neighbours.
+fn spaced(list: &[u32], between: u32) -> Vec<u32> {
+    let mut wider = Vec::new();
+    for &v in list {
+        if wider.last() == Some(&v) {
+            wider.push(between);
+        }
+        wider.push(v);
+    }
+    wider
 }
 
 /// What a program asks of a table.
@@ -108,8 +125,34 @@ impl Records {
         }
     }
 
-    /// Makes the edit, if it is one that the rules compare, and records what the Rust answers.
+    /// Makes the edit and records what the Rust answers; where its list has equal neighbours, by edits that both sides take.
     fn edit(&mut self, edit: &Edit) {
+        if self.both.equal_neighbour(edit).is_some() {
+            self.with_vertex_between(edit);
+        } else {
+            self.call(edit);
+        }
+    }
+
+    /// A vertex is added, stands in the list between each two equal neighbours, and is removed. It is the last that was added, so that the
+    /// removal changes no order of the Rust's.
+    fn with_vertex_between(&mut self, edit: &Edit) {
+        let between = self.both.graph.next_numbers().0 as u32;
+        let wider = match edit {
+            Edit::AddHyperedge(list, w) => Edit::AddHyperedge(spaced(list, between), *w),
+            Edit::UpdateHyperedgeVertices(e, list) => Edit::UpdateHyperedgeVertices(*e, spaced(list, between)),
+            other => unreachable!("{other:?}"),
+        };
+        let vertex = Edit::AddVertex(BETWEEN);
+        if self.both.compared(&vertex) && self.both.compared(&wider) {
+            self.call(&vertex);
+            self.call(&wider);
+            self.call(&Edit::RemoveVertex(between));
+        }
+    }
+
+    /// Makes the edit, if it is one that the rules compare, and records what the Rust answers.
+    fn call(&mut self, edit: &Edit) {
         if !self.both.compared(edit) {
             return;
         }
@@ -143,6 +186,7 @@ impl Records {
                 self.word(*v);
                 self.word(*w);
             }
+            Edit::ByText(_) => unreachable!("no record is of a text"),
         }
         self.answer(number, detail);
     }
@@ -368,7 +412,7 @@ impl Records {
         for v in 0..n {
             self.edit(&Edit::AddVertex(7 * v + 3));
         }
-        for _ in 0..m {
+        while self.both.graph.count_hyperedges() < m as usize {
             let edit = draw.addition(n, members, acyclic);
             self.edit(&edit);
         }

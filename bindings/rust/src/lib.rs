@@ -42,6 +42,8 @@ pub enum Refusal {
     SameVertex(Vertex),
     /// With the lowest hyperedge in which the vertices to merge stand side by side.
     SideBySide(Hyperedge),
+    /// With the first member that equals the one after it.
+    EqualNeighbours(Vertex),
 }
 
 impl Refusal {
@@ -62,6 +64,7 @@ impl Refusal {
             Refusal::BadText(_) => 12,
             Refusal::SameVertex(_) => 13,
             Refusal::SideBySide(_) => 14,
+            Refusal::EqualNeighbours(_) => 20,
         }
     }
 
@@ -69,7 +72,7 @@ impl Refusal {
     pub fn detail(self) -> u64 {
         match self {
             Refusal::NoMembers(d) => d.into(),
-            Refusal::VertexNotLive(v) | Refusal::SameVertex(v) => v.0.into(),
+            Refusal::VertexNotLive(v) | Refusal::SameVertex(v) | Refusal::EqualNeighbours(v) => v.0.into(),
             Refusal::HyperedgeNotLive(e) | Refusal::SameMembers(e) | Refusal::SideBySide(e) => e.0.into(),
             Refusal::TooManyMembers(d) | Refusal::NoRoom(d) | Refusal::BadText(d) => d,
             _ => 0,
@@ -105,6 +108,7 @@ impl Reply {
             12 => Refusal::BadText(self.detail),
             13 => Refusal::SameVertex(Vertex(word)),
             14 => Refusal::SideBySide(Hyperedge(word)),
+            20 => Refusal::EqualNeighbours(Vertex(word)),
             other => unreachable!("answer number {other}"),
         })
     }
@@ -248,13 +252,13 @@ pub fn add_vertex(table: &mut [u32], weight: u32) -> Answer {
     unsafe { c::vs_add_vertex(table.as_mut_ptr(), table.len(), weight) }.answer()
 }
 
-/// A new hyperedge, or the identical one that is live; its number.
+/// A new hyperedge, or the identical one that is live; its number. Refused where a member equals the one after it.
 pub fn add_hyperedge(table: &mut [u32], members: &[u32], weight: u32) -> Answer {
     // The pointers and counts are those of slices that live and do not overlap for the time of the call.
     unsafe { c::vs_add_hyperedge(table.as_mut_ptr(), table.len(), members.as_ptr(), members.len(), weight) }.answer()
 }
 
-/// Another member list; the weight is kept.
+/// Another member list; the weight is kept. Refused where a member equals the one after it.
 pub fn update_hyperedge_vertices(table: &mut [u32], hyperedge: Hyperedge, members: &[u32]) -> Answer {
     // The pointers and counts are those of slices that live and do not overlap for the time of the call.
     unsafe { c::vs_update_hyperedge_vertices(table.as_mut_ptr(), table.len(), hyperedge, members.as_ptr(), members.len()) }

@@ -37,6 +37,35 @@ fn a_table_is_filled_asked_and_refused() {
 }
 
 #[test]
+fn equal_neighbours_are_refused_and_read() {
+    let mut table = vec![0; TABLE_WORDS];
+    for weight in 0..3 {
+        add_vertex(&mut table, weight).unwrap();
+    }
+    add_hyperedge(&mut table, &[1, 2, 1], 5).unwrap();
+    let before = table.clone();
+    let twice = |v| Err(Refusal::EqualNeighbours(Vertex(v)));
+    assert_eq!(add_hyperedge(&mut table, &[0, 2, 2, 1, 1], 5), twice(2));
+    assert_eq!(add_hyperedge(&mut table, &[2, 2, 9], 5), Err(Refusal::VertexNotLive(Vertex(9))));
+    assert_eq!(update_hyperedge_vertices(&mut table, Hyperedge(0), &[0, 1, 1]), twice(1));
+    assert_eq!(update_hyperedge_vertices(&mut table, Hyperedge(9), &[0, 0]), twice(0));
+    assert_eq!(table, before);
+
+    assert_eq!(remove_vertex(&mut table, Vertex(2)), Ok(0));
+    let mut out = [7; 3];
+    assert_eq!(get_full_vertex_hyperedges(&table, Vertex(1), &mut out), Ok(3));
+    assert_eq!(out, [2, 1, 1]);
+    assert_eq!(add_hyperedge(&mut table, &[1, 1], 5), twice(1));
+
+    let mut text = [0; 200];
+    let bytes = write_frames(&table, &mut text).unwrap() as usize;
+    let mut other = vec![3; TABLE_WORDS];
+    assert_eq!(read_frames(&mut other, &text[..bytes]), Ok(0));
+    assert_eq!(other, table);
+    assert_eq!(topological_sort(&other, &mut out), Err(Refusal::ClosedWalk));
+}
+
+#[test]
 fn two_vertices_are_merged() {
     let mut table = vec![0; TABLE_WORDS];
     for weight in 0..4 {

@@ -30,13 +30,22 @@ fn add_vertices(t: &mut [u32]) {
     }
 }
 
-// Adds the lists 0, 0 and 0, 1 and so on, of weight 5, until 192 hyperedges are live.
+// Adds the lists 255, 0 and 255, 1 and so on, of weight 5, until 192 hyperedges are live.
 fn add_hyperedges(t: &mut [u32]) {
     let mut j: u32 = 0;
     while j < layout::HYPEREDGE_LIMIT as u32 {
-        let list = [0, j];
+        let list = [255, j];
         add_hyperedge(t, &list, 5);
         j += 1;
+    }
+}
+
+// The list 0, 1 and so on.
+fn count_up(list: &mut [u32]) {
+    let mut v: u32 = 0;
+    for i in 0..list.len() {
+        list[i] = v;
+        v = std::num::wrapping_add_u32(v, 1);
     }
 }
 
@@ -51,7 +60,6 @@ fn vertices() {
 
 fn lists() {
     let mut t = [0u32; layout::SIZE];
-    let longest = [3u32; layout::MEMBER_LIMIT];
     let longer = [3u32; layout::MEMBER_LIMIT + 1];
     let unknown = [3u32, 256, 257];
     add_vertices(&mut t);
@@ -64,14 +72,43 @@ fn lists() {
         b"members 256 and 257 unknown",
         add_hyperedge(&mut t, &unknown, 5),
     );
-    say(b"32 members", add_hyperedge(&mut t, &longest, 5));
-    say(b"the same again", add_hyperedge(&mut t, &longest, 5));
+}
+
+fn longest() {
+    let mut t = [0u32; layout::SIZE];
+    let mut list = [0u32; layout::MEMBER_LIMIT];
+    count_up(&mut list);
+    add_vertices(&mut t);
+    say(b"32 members", add_hyperedge(&mut t, &list, 5));
+    say(b"the same again", add_hyperedge(&mut t, &list, 5));
+}
+
+// Lists with equal neighbours.
+fn neighbours() {
+    let mut t = [0u32; layout::SIZE];
+    let all = [3u32; layout::MEMBER_LIMIT];
+    let several = [4u32, 9, 9, 4, 4];
+    let unknown = [4u32, 4, 256];
+    add_vertices(&mut t);
+    say(b"list 4, 4", add_hyperedge(&mut t, &unknown[..2], 5));
+    say(
+        b"list 4, 4, 256, the last unknown",
+        add_hyperedge(&mut t, &unknown, 5),
+    );
+    say(b"list 4, 9, 9, 4, 4", add_hyperedge(&mut t, &several, 5));
+    say(b"32 times 3", add_hyperedge(&mut t, &all, 5));
+    say(b"3 alone", add_hyperedge(&mut t, &all[..1], 5));
+    say(
+        b"update of it to 4, 4",
+        update(&mut t, HyperedgeIndex(0), &unknown[..2]),
+    );
 }
 
 fn hyperedges() {
     let mut t = [0u32; layout::SIZE];
-    let last = [0u32, 191];
+    let last = [255u32, 191];
     let further = [1u32, 2];
+    let twice = [4u32, 4];
     add_vertices(&mut t);
     add_hyperedges(&mut t);
     say(b"hyperedge 193", add_hyperedge(&mut t, &further, 5));
@@ -83,17 +120,23 @@ fn hyperedges() {
         b"the same list, another weight",
         add_hyperedge(&mut t, &last, 6),
     );
+    say(b"list 4, 4, table full", add_hyperedge(&mut t, &twice, 5));
 }
 
 fn updates() {
     let mut t = [0u32; layout::SIZE];
-    let first = [0u32, 0];
+    let first = [255u32, 0];
     let further = [1u32, 2];
+    let twice = [4u32, 4];
     add_vertices(&mut t);
     add_hyperedges(&mut t);
     say(
         b"update, unknown, no members",
         update(&mut t, HyperedgeIndex(192), &first[..0]),
+    );
+    say(
+        b"update, unknown, to 4, 4",
+        update(&mut t, HyperedgeIndex(192), &twice),
     );
     say(
         b"update, unknown",
@@ -112,9 +155,15 @@ fn updates() {
 
 fn removals() {
     let mut t = [0u32; layout::SIZE];
+    let between = [3u32, 4, 3];
     let alone = [3u32, 3];
     add_vertices(&mut t);
-    say(b"list 3, 3", add_hyperedge(&mut t, &alone, 5));
+    say(b"list 3, 4, 3", add_hyperedge(&mut t, &between, 5));
+    say(b"remove vertex 4", remove_vertex(&mut t, VertexIndex(4)));
+    say(
+        b"list 3, 3, which is there",
+        add_hyperedge(&mut t, &alone, 5),
+    );
     say(b"remove vertex 3", remove_vertex(&mut t, VertexIndex(3)));
     say(
         b"remove vertex 3 again",
@@ -131,12 +180,17 @@ fn removals() {
 fn numbers_spent() {
     let mut t = [0u32; layout::SIZE];
     let only = [4294967294u32];
+    let twice = [4294967294u32, 4294967294];
     t[0] = 4294967294;
     t[1] = 4294967294;
     say(b"last vertex number", add_vertex(&mut t, 7));
     say(b"vertex numbers spent", add_vertex(&mut t, 7));
     say(b"last hyperedge number", add_hyperedge(&mut t, &only, 5));
     say(b"hyperedge numbers spent", add_hyperedge(&mut t, &only, 6));
+    say(
+        b"numbers spent, equal neighbours",
+        add_hyperedge(&mut t, &twice, 6),
+    );
     say(b"the one that is there", add_hyperedge(&mut t, &only, 5));
 }
 
@@ -157,6 +211,8 @@ fn short() {
 fn main() {
     vertices();
     lists();
+    longest();
+    neighbours();
     hyperedges();
     updates();
     removals();
