@@ -443,10 +443,10 @@ impl Records {
 /// How many tables of each sort a part draws: small ones, sequences and the edits of each, and tables built by additions.
 fn sizes(part: Part) -> (u32, u32, u32, u32) {
     match part {
-        Part::Edits => (0, 48, 400, 12),
-        Part::Lookups => (150, 14, 112, 30),
-        Part::Searches => (250, 14, 112, 100),
-        Part::Properties => (400, 30, 112, 60),
+        Part::Edits => (0, 50, 400, 12),
+        Part::Lookups => (160, 16, 112, 30),
+        Part::Searches => (250, 16, 112, 100),
+        Part::Properties => (400, 32, 112, 60),
     }
 }
 
