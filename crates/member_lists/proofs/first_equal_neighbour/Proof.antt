@@ -52,7 +52,7 @@ loop-again c =
     let b = c .before .before .before in (search needs, unequal-here _ _ _ (b .before .loop .inv .1) (omega (arith, b .loop-test .taken)) (c .if1 .left))
 
 returns-2 : tie.Need-returns-2 Inv-loop μ-loop
-returns-2 c = search none-left
+returns-2 c = none-left _ _ _ (c .before .loop .inv .1) (omega (arith, c .loop-test .left))
 
 pub first-equal-neighbour-spec : {M : Type 1} → statement M
 first-equal-neighbour-spec =
