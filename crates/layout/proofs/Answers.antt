@@ -13,7 +13,7 @@ use Rattle.lists.proofs.Cases.{on}
 use Rattle.layout.specs.declared.Found.{Found}
 use Rattle.layout.specs.declared.Found.the-variants.{At, Nothing}
 use Rattle.layout.specs.declared.Answer.{Answer}
-use Rattle.layout.specs.declared.Answer.the-variants.{Done, NotWellFormed, NoMembers, VertexNotLive, HyperedgeNotLive, SameMembers, TooManyMembers, Full, NumbersSpent, ClosedWalk, TooFewHyperedges, NoRoom, BadText, SameVertex, SideBySide, EqualNeighbours}
+use Rattle.layout.specs.declared.Answer.the-variants.{Done, NotWellFormed, NoMembers, VertexNotLive, HyperedgeNotLive, SameMembers, TooManyMembers, Full, NumbersSpent, ClosedWalk, TooFewHyperedges, NoRoom, BadText, SameVertex, SideBySide, BadRecord, EqualNeighbours}
 use Rattle.layout.specs.Content.{Table, position, isLive}
 use Rattle.layout.specs.Layout.{limit, size, read}
 use Rattle.layout.specs.WellFormed.{wellFormed}
@@ -102,7 +102,7 @@ decode n d =
     (cond (eqb n 5) (SameMembers (record { 0 = d })) (cond (eqb n 6) (TooManyMembers d) (cond (eqb n 7) Full
     (cond (eqb n 8) NumbersSpent (cond (eqb n 9) ClosedWalk (cond (eqb n 10) TooFewHyperedges
     (cond (eqb n 11) (NoRoom d) (cond (eqb n 12) (BadText d) (cond (eqb n 13) (SameVertex (record { 0 = d }))
-    (cond (eqb n 14) (SideBySide (record { 0 = d })) (EqualNeighbours (record { 0 = d }))))))))))))))))
+    (cond (eqb n 14) (SideBySide (record { 0 = d })) (cond (eqb n 15) (BadRecord d) (EqualNeighbours (record { 0 = d })))))))))))))))))
 
 decoded : (a : Answer) → decode (number a) (detail a) ≡ a
 unfolding decode
@@ -121,6 +121,7 @@ decoded (NoRoom k) = refl
 decoded (BadText line) = refl
 decoded (SameVertex v) = refl
 decoded (SideBySide e) = refl
+decoded (BadRecord i) = refl
 decoded (EqualNeighbours v) = refl
 
 -- any two results that keep one promise agree in answer and lent words

@@ -48,6 +48,7 @@ pub enum Answer {
     BadText(usize),
     SameVertex(VertexIndex),
     SideBySide(HyperedgeIndex),
+    BadRecord(usize),
     EqualNeighbours(VertexIndex),
 }
 
@@ -77,6 +78,7 @@ pub fn reply_of(a: Answer) -> Reply
         Answer::BadText(line) => reply_with(12, line as u64),
         Answer::SameVertex(v) => reply_with(13, v.0 as u64),
         Answer::SideBySide(e) => reply_with(14, e.0 as u64),
+        Answer::BadRecord(i) => reply_with(15, i as u64),
         Answer::EqualNeighbours(v) => reply_with(20, v.0 as u64),
     }
 }
