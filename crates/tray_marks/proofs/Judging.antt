@@ -10,9 +10,9 @@ use Rattle.lists.proofs.Cases.{and-false-left, and-false-right, and-both}
 use Rattle.layout.specs.declared.Found.{Found}
 use Rattle.layout.specs.declared.Found.the-variants.{At, Nothing}
 use Rattle.layout.specs.Content.{liveVertices, liveHyperedges, position}
-use Rattle.layout.specs.Layout.{limit, vertexLimit, hyperedgeLimit, read}
+use Rattle.layout.specs.Layout.{limit, hyperedgeLimit, read}
 use Rattle.layout.specs.Inner.{Formed}
-use Rattle.layout.proofs.Read.{vertex-found, hyperedge-found}
+use Rattle.layout.proofs.Read.{hyperedge-found}
 use Rattle.trays.specs.declared.Withdrawal.{Withdrawal}
 use Rattle.trays.specs.Trays.{vertexKind, hyperedgeKind}
 use Rattle.tray_marks.specs.declared.Tray.{Tray}
@@ -22,9 +22,6 @@ use Rattle.tray_marks.specs.Marking.{OpenFormed, refusedAt, vertexMarked
 
 module _ (ws : List ℕ) (x : ℕ) (tray : Tray) (i : ℕ) (p : Found) where
   module _ (e : p ≡ position x (liveVertices (read limit ws))) where
-    pub vertex-in : (k : ℕ) → Formed limit ws → p ≡ At k → k < vertexLimit
-    vertex-in k f h = omega (arith, vertex-found limit ws x k (sym e ∙ h) .0, f .shape .vertices-le)
-
     pub vertex-missing : p ≡ Nothing → (r : Tray) → r ≡ refusedAt tray i → r ≡ vertexMarked (position x (liveVertices (read limit ws))) tray i
     unfolding vertexMarked
     vertex-missing h r q = q ∙ rw (← e, h)

@@ -94,14 +94,14 @@ dead-missing x live d = go (position x live) refl
 
 -- ---- one record
 
--- a tray on a well-formed table, with no faulty record so far
+-- a tray on a well-formed table, with no faulty record so far, and with a mark for every live number
 record Ready (t : Table) (tray : Tray) : Type 0 where
   formed : tray .formed ≡ true
   faultless : tray .faulty ≡ false
   vertices-room : length (liveVertices t) ≤ length (tray .vertices)
   hyperedges-room : length (liveHyperedges t) ≤ length (tray .hyperedges)
 
--- what the removals name is marked, and all else is as before
+-- what the removals name is newly marked, and no record is newly faulty
 pub record AllNamed (t : Table) (rs : List Removal) (old new : Tray) : Type 0 where
   pub formed : new .formed ≡ old .formed
   pub faulty : new .faulty ≡ old .faulty

@@ -1,5 +1,6 @@
 -- `tray_marks::mark_vertex` meets its contract. Assumes nothing.
-use Rattle.tray_marks.proofs.Judging.{vertex-in, vertex-missing, vertex-there}
+use Rattle.marks.proofs.Marked.{marked-in}
+use Rattle.tray_marks.proofs.Judging.{vertex-missing, vertex-there}
 use borrow.Author.Needs.{needs}
 use Rattle.tray_marks.proofs.mark_vertex.Statement.{statement}
 use Rattle.tray_marks.proofs.mark_vertex.Tie as tie
@@ -17,7 +18,7 @@ enum-known-f : tie.Need-enum-known-f
 enum-known-f c = search needs
 
 element-write-marked : tie.Need-element-write-marked
-element-write-marked c = search vertex-in
+element-write-marked c = search marked-in
 
 returns : tie.Need-returns
 returns c = search vertex-missing
