@@ -2,6 +2,7 @@
 use mathlib.Core.Bool.{Bool}
 use mathlib.Core.List.{List}
 use Prim.Native.Nat.{ℕ, _+_}
+use lib.ListN.{take, drop}
 use Rattle.lists.specs.Lists.{filter, tab}
 use Rattle.layout.specs.Content.{Vertex, Hyperedge, Table, liveVertices, liveHyperedges}
 use Rattle.layout.specs.Layout.{limit, vertexSize, verticesAt, vertexAt, hyperedgeAt, nextVertexIn, nextHyperedgeIn, readVertices, readHyperedges, read, vertexWords}
@@ -9,9 +10,12 @@ use Rattle.edits.specs.Rewriting.{Relaid, Rewritten}
 use Rattle.edits.specs.Removing.{sifted}
 use Rattle.withdraw_marked.specs.Sparing.{spared}
 
--- by the marks of the records of ws: a member, a vertex and a hyperedge that have none
+-- by the marks of the records of ws: a member, words, a vertex and a hyperedge that have none
 abbrev pub memberSpared : List Bool → List ℕ → ℕ → Bool
 memberSpared marks ws x = spared marks (liveVertices (read limit ws)) x
+
+abbrev pub wordsSpared : List Bool → List ℕ → ℕ → ℕ → List ℕ
+wordsSpared marks ws from n = filter (memberSpared marks ws) (take n (drop from ws))
 
 unfoldable pub vertexSpared : List Bool → List ℕ → Vertex → Bool
 vertexSpared marks ws v = spared marks (liveVertices (read limit ws)) (v .number)

@@ -1,14 +1,14 @@
 // The marked records taken out of a table, and the gaps closed once.
 ghost use mathlib.Core.Path.{_≡_};
 ghost use Prim.Native.Nat.{_+_, _<_, _≤_};
-ghost use lib.ListN.{length, take, drop};
+ghost use lib.ListN.{length};
 ghost use lib.Seq.{paste};
 ghost use Rattle.lists.specs.Lists.{filter};
 ghost use Rattle.layout.specs.Layout.{limit, size, vertexCount, hyperedgeCount, readVertices, read, words};
 ghost use Rattle.layout.specs.Inner.{Formed};
 ghost use Rattle.edits.specs.Removing.{withVertices};
 ghost use Rattle.withdraw_marked.specs.Sparing.{unmarkedOf};
-ghost use Rattle.withdraw_marked.specs.Sifting.{memberSpared, vertexSpared, HyperedgesSifted, VertexTurn, siftedTable};
+ghost use Rattle.withdraw_marked.specs.Sifting.{memberSpared, wordsSpared, vertexSpared, HyperedgesSifted, VertexTurn, siftedTable};
 use edits::records::put_head;
 use edits::records::store;
 use edits::shift::clear_words;
@@ -38,7 +38,7 @@ fn keep_spared(
 ) -> usize
     requires { ⌜ Formed limit (now old) ⌝ }
     requires { ⌜ (from + n ≤ length (now old)) × (to + n ≤ length (now t)) ⌝ }
-    ensures { λ r. ⌜ (r ≤ n) × ((r ≡ length (filter (memberSpared (now (vertices .entry)) (now (old .entry))) (take n (drop from (now (old .entry)))))) × (now (t .exit) ≡ paste (now (t .entry)) to (filter (memberSpared (now (vertices .entry)) (now (old .entry))) (take n (drop from (now (old .entry))))) r)) ⌝ }
+    ensures { λ r. ⌜ (r ≤ n) × ((r ≡ length (wordsSpared (now (vertices .entry)) (now (old .entry)) from n)) × (now (t .exit) ≡ paste (now (t .entry)) to (wordsSpared (now (vertices .entry)) (now (old .entry)) from n) r)) ⌝ }
 {
     let mut c = 0;
     let mut i = 0;
