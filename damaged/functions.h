@@ -22,7 +22,8 @@ typedef struct {
 } arguments;
 
 /* What a function takes. */
-enum { VERTEX = 1, HYPEREDGE = 2, WEIGHT = 4, SECOND = 8, MEMBERS_LIST = 16, HYPEREDGES_LIST = 32, SIZE = 64, WALK = 128, OUT = 256, TEXT = 512, READ = 1024, TRAY = 2048 };
+enum { VERTEX = 1, HYPEREDGE = 2, WEIGHT = 4, SECOND = 8, MEMBERS_LIST = 16, HYPEREDGES_LIST = 32, SIZE = 64, WALK = 128, OUT = 256, TEXT = 512, READ = 1024,
+       TRAY = 2048 };
 
 #define FUNCTIONS(F)                                                                                        \
     F(add_vertex, WEIGHT, (T, a->x))                                                                        \

@@ -32,7 +32,7 @@ int main(void) {
     r = vs_withdraw_tray(table, VS_TABLE_WORDS, tray, 3);
     printf("a tray with vertex 9 in it: refused %u, record %u\n", r.number, (unsigned)r.detail);
     r = vs_withdraw_tray(table, VS_TABLE_WORDS, tray, 2);
-    printf("vertex 4 and hyperedge 1 alone: answer %u\n", r.number);
+    printf("the tray without it: answer %u\n", r.number);
 
     vs_add_hyperedge(table, VS_TABLE_WORDS, (const uint32_t[]){2, 0}, 2, 1);
     r = vs_topological_sort(table, VS_TABLE_WORDS, sorted, 8);

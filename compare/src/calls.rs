@@ -268,7 +268,7 @@ impl Both {
         })
     }
 
-    /// The Rust's table after single removals of the records, one after the other; what is gone by then is refused and stays so.
+    /// The Rust's table after single removals of the records, one after the other; one of what is gone by then is refused and changes nothing.
     fn removed(&self, tray: &[Withdrawal]) -> Vec<u32> {
         let mut graph = self.graph.clone();
         for record in tray {
