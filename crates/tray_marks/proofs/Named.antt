@@ -19,7 +19,7 @@ use Rattle.layout.proofs.Back.{read-holdable}
 use Rattle.layout.proofs.Holdable.{Holdable, holdable-of}
 use Rattle.layout.proofs.Position.{found-live, missing-dead}
 use Rattle.layout.proofs.Read.{numbered-ascends}
-use Rattle.edits.specs.Stages.{firstPassing, firstPassingFrom}
+use Rattle.edits.specs.Results.{firstPassing, firstPassingFrom}
 use Rattle.marks.specs.Marks.{isMarked}
 use Rattle.marks.proofs.Marked.{marking-at}
 use Rattle.removals.specs.Removals.{Removal, vertex, hyperedge, isVertex, isHyperedge}

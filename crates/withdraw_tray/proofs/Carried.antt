@@ -15,7 +15,7 @@ use Rattle.layout.specs.WellFormed.{wellFormed}
 use Rattle.layout.specs.Answers.{result, onFormed}
 use Rattle.layout.proofs.Answers.{formed-result}
 use Rattle.layout.proofs.Position.{position-found, missing-dead}
-use Rattle.edits.specs.Stages.{firstPassing}
+use Rattle.edits.specs.Results.{firstPassing}
 use Rattle.removals.specs.Removals.{Removal, isVertex, isHyperedge, staysVertex, staysHyperedge, keptVertex, keptHyperedge, thinned, withdrawn}
 use Rattle.trays.specs.declared.Withdrawal.{Withdrawal}
 use Rattle.trays.specs.Trays.{isFaulty, asked, trayResult}
