@@ -1,40 +1,30 @@
--- What the steps of a withdrawal leave of a table's words: the records that have no mark, written one after the other. Assumes nothing.
+-- What the steps of a withdrawal leave: of the lists the members that have no mark, of the hyperedge records those that have none. Assumes nothing.
 use mathlib.Core.Bool.{Bool}
 use mathlib.Core.List.{List}
-use Prim.Native.Nat.{ℕ, _+_}
+use Prim.Native.Nat.{ℕ}
 use lib.ListN.{take, drop}
-use Rattle.lists.specs.Lists.{filter, tab}
-use Rattle.layout.specs.Content.{Vertex, Hyperedge, Table, liveVertices, liveHyperedges}
-use Rattle.layout.specs.Layout.{limit, vertexSize, verticesAt, vertexAt, hyperedgeAt, nextVertexIn, nextHyperedgeIn, readVertices, readHyperedges, read, vertexWords}
-use Rattle.edits.specs.Rewriting.{Relaid, Rewritten}
+use Rattle.lists.specs.Lists.{filter}
+use Rattle.layout.specs.Content.{Hyperedge, Table, liveVertices}
+use Rattle.layout.specs.Layout.{limit, hyperedgeCount, hyperedgeAt, nextVertexIn, nextHyperedgeIn, readVertices, read}
+use Rattle.edits.specs.Rewriting.{Rewritten}
 use Rattle.edits.specs.Removing.{sifted}
+use Rattle.sift_vertices.specs.Unmarked.{unmarked}
 use Rattle.withdraw_marked.specs.Sparing.{spared}
 
--- by the marks of the records of ws: a member, words, a vertex and a hyperedge that have none
+-- by the marks of the vertex records of ws: a member that has none, and those of the n words from `from` on that are such a member
 abbrev pub memberSpared : List Bool → List ℕ → ℕ → Bool
 memberSpared marks ws x = spared marks (liveVertices (read limit ws)) x
 
 abbrev pub wordsSpared : List Bool → List ℕ → ℕ → ℕ → List ℕ
 wordsSpared marks ws from n = filter (memberSpared marks ws) (take n (drop from ws))
 
-unfoldable pub vertexSpared : List Bool → List ℕ → Vertex → Bool
-vertexSpared marks ws v = spared marks (liveVertices (read limit ws)) (v .number)
-
-unfoldable pub hyperedgeSpared : List Bool → List ℕ → Hyperedge → Bool
-hyperedgeSpared marks ws e = spared marks (liveHyperedges (read limit ws)) (e .number)
+-- what is left of the first j hyperedges of ws
+abbrev pub hyperedgesLeft : List Bool → List Bool → List ℕ → ℕ → List Hyperedge
+hyperedgesLeft vertices hyperedges ws j = sifted (memberSpared vertices ws) (unmarked (hyperedgeAt limit ws) hyperedges j)
 
 -- after j hyperedge records of ws: what is left of them, k records, stands in s
 abbrev pub HyperedgesSifted : List Bool → List Bool → List ℕ → ℕ → ℕ → List ℕ → Type 0
-HyperedgesSifted vertices hyperedges ws j k s =
-    Rewritten limit ws (sifted (memberSpared vertices ws) (filter (hyperedgeSpared hyperedges ws) (tab (hyperedgeAt limit ws) j))) j k s
-
--- after i vertex records of ws: those that are left, k of them, stand in s, where d stood
-abbrev pub VerticesSifted : List Bool → List ℕ → List ℕ → ℕ → ℕ → List ℕ → Type 0
-VerticesSifted vertices ws d i k s = Relaid vertexWords verticesAt vertexSize d (filter (vertexSpared vertices ws) (tab (vertexAt ws) i)) i k s
-
--- a turn at vertex record i, whatever stood there before the first turn: from k records in s to k′ in s′
-abbrev pub VertexTurn : List Bool → List ℕ → ℕ → ℕ → List ℕ → ℕ → List ℕ → Type 0
-VertexTurn vertices ws i k s k′ s′ = (d : List ℕ) → VerticesSifted vertices ws d i k s → VerticesSifted vertices ws d (i + 1) k′ s′
+HyperedgesSifted vertices hyperedges ws j k s = Rewritten limit ws (hyperedgesLeft vertices hyperedges ws j) j k s
 
 -- the table of ws with the hyperedges that are left, and all its vertices
 unfoldable pub siftedTable : List Bool → List Bool → List ℕ → Table
@@ -42,5 +32,5 @@ siftedTable vertices hyperedges ws = record {
   nextVertex = nextVertexIn ws;
   nextHyperedge = nextHyperedgeIn ws;
   vertices = readVertices ws;
-  hyperedges = sifted (memberSpared vertices ws) (filter (hyperedgeSpared hyperedges ws) (readHyperedges limit ws));
+  hyperedges = hyperedgesLeft vertices hyperedges ws (hyperedgeCount ws);
 }

@@ -3,17 +3,16 @@ ghost use mathlib.Core.Path.{_≡_};
 ghost use Prim.Native.Nat.{_+_, _<_, _≤_};
 ghost use lib.ListN.{length};
 ghost use lib.Seq.{paste};
-ghost use Rattle.lists.specs.Lists.{filter};
-ghost use Rattle.layout.specs.Layout.{limit, size, vertexCount, hyperedgeCount, readVertices, read, words};
+ghost use Rattle.layout.specs.Layout.{limit, hyperedgeCount, read, words};
 ghost use Rattle.layout.specs.Inner.{Formed};
-ghost use Rattle.edits.specs.Removing.{withVertices};
 ghost use Rattle.withdraw_marked.specs.Sparing.{unmarkedOf};
-ghost use Rattle.withdraw_marked.specs.Sifting.{memberSpared, wordsSpared, vertexSpared, HyperedgesSifted, VertexTurn, siftedTable};
+ghost use Rattle.withdraw_marked.specs.Sifting.{memberSpared, wordsSpared, HyperedgesSifted, siftedTable};
 use edits::records::put_head;
 use edits::records::store;
 use edits::shift::clear_words;
 use layout::Found;
 use layout::VertexIndex;
+use sift_vertices::sift_vertices;
 
 // The vertex has no mark in its record's place, or is not live.
 fn is_spared(old: &[u32], vertices: &[bool; 256], x: u32) -> bool
@@ -98,40 +97,6 @@ fn sift_hyperedges(t: &mut [u32], old: &[u32], vertices: &[bool; 256], hyperedge
     let a = layout::HYPEREDGES_AT + k * layout::RECORD_SIZE;
     clear_words(t, a, layout::SIZE - a);
     t[3] = k as u32;
-}
-
-// Writes vertex record i to record k's place, and says the next place: k again where it has a mark.
-fn move_vertex(t: &mut [u32], old: &[u32], vertices: &[bool; 256], i: usize, k: usize) -> usize
-    requires { ⌜ Formed limit (now old) ⌝ }
-    requires { ⌜ (length (now t) ≡ size limit) × ((i < vertexCount (now old)) × (k ≤ i)) ⌝ }
-    ensures { λ r. ⌜ VertexTurn (now (vertices .entry)) (now (old .entry)) i k (now (t .entry)) r (now (t .exit)) ⌝ }
-{
-    if vertices[i] {
-        return k;
-    }
-    let b = layout::VERTICES_AT + i * layout::VERTEX_SIZE;
-    let a = layout::VERTICES_AT + k * layout::VERTEX_SIZE;
-    t[a] = old[b];
-    t[a + 1] = old[b + 1];
-    k + 1
-}
-
-// Writes the vertex records that have no mark one after the other, clears what is behind them, and counts them.
-fn sift_vertices(t: &mut [u32], old: &[u32], vertices: &[bool; 256])
-    requires { ⌜ Formed limit (now old) ⌝ }
-    requires { ⌜ length (now t) ≡ size limit ⌝ }
-    ensures { λ _. ⌜ now (t .exit) ≡ withVertices (filter (vertexSpared (now (vertices .entry)) (now (old .entry))) (readVertices (now (old .entry)))) (now (t .entry)) ⌝ }
-{
-    let n = layout::vertex_count(old);
-    let mut k = 0;
-    let mut i = 0;
-    while i < n {
-        k = move_vertex(t, old, vertices, i, k);
-        i += 1;
-    }
-    let a = layout::VERTICES_AT + k * layout::VERTEX_SIZE;
-    clear_words(t, a, layout::HYPEREDGES_AT - a);
-    t[2] = k as u32;
 }
 
 // Takes out the marked vertices, from every list too, and the marked hyperedges; drops the lists that are emptied.

@@ -30,7 +30,8 @@ sift-vertices-requires : tie.Need-sift-vertices-requires
 sift-vertices-requires c κs =
     let s = c .before .before .before .before .before .before .before .before in let a = s .before .before .before .before in
     let same = copy-same (now (a .args .t)) _ _ (a .pre) (length-replicate {A = ℕ} (size limit) 0) (s .store .ensures) in
-    (rw same at (a .pre), search needs)
+    let shape = rw same at (a .pre .shape) in
+    ((search needs, shape .sized), shape .vertices-le)
 
 same-length : tie.Need-same-length
 same-length c = search needs

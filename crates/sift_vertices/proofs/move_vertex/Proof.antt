@@ -1,10 +1,10 @@
--- `withdraw_marked::move_vertex` meets its contract. Assumes nothing.
+-- `sift_vertices::move_vertex` meets its contract. Assumes nothing.
 use lib.ListN.{length-set}
 use native.Mathlib.Omega.{arith}
-use Rattle.withdraw_marked.proofs.Sifting.{vertex-passed, vertex-kept}
+use Rattle.sift_vertices.proofs.Turns.{vertex-passed, vertex-kept}
 use borrow.Author.Needs.{needs}
-use Rattle.withdraw_marked.proofs.move_vertex.Statement.{statement}
-use Rattle.withdraw_marked.proofs.move_vertex.Tie as tie
+use Rattle.sift_vertices.proofs.move_vertex.Statement.{statement}
+use Rattle.sift_vertices.proofs.move_vertex.Tie as tie
 
 element-copy-out-if1 : tie.Need-element-copy-out-if1
 element-copy-out-if1 c = search needs

@@ -1,18 +1,18 @@
--- `withdraw_marked::sift_vertices` meets its contract. Assumes nothing.
+-- `sift_vertices::sift_vertices` meets its contract. Assumes nothing.
 use mathlib.Core.Path.{_∙_}
 use Prim.Native.Nat.{_≤_, _-_}
 use lib.ListN.{length-set}
-use Rattle.withdraw_marked.specs.Sifting.{VerticesSifted}
-use Rattle.withdraw_marked.proofs.Sifting.{vertices-none, vertices-done}
+use Rattle.sift_vertices.specs.Unmarked.{VerticesSifted}
+use Rattle.sift_vertices.proofs.Turns.{vertices-none, vertices-done}
 use borrow.Author.Needs.{needs}
-use Rattle.withdraw_marked.proofs.sift_vertices.Statement.{statement}
-use Rattle.withdraw_marked.proofs.sift_vertices.Tie as tie
+use Rattle.sift_vertices.proofs.sift_vertices.Statement.{statement}
+use Rattle.sift_vertices.proofs.sift_vertices.Tie as tie
 
 abbrev Inv-loop : tie.InvT-loop
-Inv-loop t₀ old vertices n k₀ i₀ t k i = (i ≤ n) × VerticesSifted vertices old t₀ i k t
+Inv-loop t₀ old marks n k₀ i₀ t k i = (i ≤ n) × VerticesSifted marks old t₀ i k t
 
 abbrev μ-loop : tie.MeasureT-loop
-μ-loop t₀ old vertices n k₀ i₀ t k i = n - i
+μ-loop t₀ old marks n k₀ i₀ t k i = n - i
 
 vertex-count-requires : tie.Need-vertex-count-requires Inv-loop μ-loop
 vertex-count-requires c κs = search needs
