@@ -8,16 +8,17 @@ use native.Mathlib.Omega.{arith}
 use borrow.Author.Tests.{ne-eqb}
 use Rattle.lists.specs.Lists.{all}
 use Rattle.lists.proofs.Cases.{on}
+use Rattle.layout.specs.declared.Found.{Found}
 use Rattle.layout.specs.declared.Answer.the-variants.{Done, NotWellFormed, BadRecord}
 use Rattle.layout.specs.Content.{Table, liveVertices, liveHyperedges, isLive}
-use Rattle.layout.specs.Layout.{limit, read}
+use Rattle.layout.specs.Layout.{limit, read, words}
 use Rattle.layout.specs.WellFormed.{wellFormed}
 use Rattle.layout.specs.Answers.{Result, result, onFormed}
 use Rattle.layout.proofs.Answers.{formed-result}
-use Rattle.removals.specs.Removals.{Removal, vertex, hyperedge, removeAll}
+use Rattle.removals.specs.Removals.{Removal, vertex, hyperedge, removeAll, withdrawn}
 use Rattle.removals.proofs.Theorems.{removals-words}
 use Rattle.trays.specs.declared.Withdrawal.{Withdrawal}
-use Rattle.trays.specs.Trays.{namesLive, isFaulty, asked, trayResult, tray}
+use Rattle.trays.specs.Trays.{namesLive, isFaulty, asked, onFaultless, trayResult, tray}
 use Rattle.trays.specs.Outcomes.{left, Accepted, Refused, allLive, FirstFaulty}
 use Rattle.trays.proofs.Faults.{none-faulty, found-faulty, first-faulty}
 
@@ -53,15 +54,23 @@ module _ (ws : List ℕ) (formed : wellFormed limit ws ≡ true) where
   unfolding tray
   tray-is rs = formed-result ws ws (trayResult rs ws) formed
 
+  -- what is left to do where no record is faulty
+  abbrev carriedOut : List Withdrawal → Result
+  carriedOut rs = result (Done 0) (words limit (withdrawn (map asked rs) (read limit ws)))
+
   -- where every record names what is live in the table as it stood at the start, the end is that of one removal after the other
   pub live-accepted : (rs : List Withdrawal) → allLive rs ws ≡ true → tray rs ws ≡ result (Done 0) (removeAll (map asked rs) ws)
   unfolding allLive trayResult
-  live-accepted rs l = tray-is rs ∙ rw (none-faulty (read limit ws) rs l) (ap (λ (s : List ℕ). result (Done 0) s) (sym (removals-words ws formed (map asked rs))))
+  live-accepted rs l =
+      let done : trayResult rs ws (read limit ws) ≡ carriedOut rs = ap (λ (f : Found). onFaultless f ws (carriedOut rs)) (none-faulty (read limit ws) rs l) in
+      tray-is rs ∙ done ∙ ap (λ (s : List ℕ). result (Done 0) s) (sym (removals-words ws formed (map asked rs)))
 
   -- where record i, counted from 0, is the first faulty one, 15 names i, and nothing changes
   pub faulty-refused : (i : ℕ) (rs : List Withdrawal) → FirstFaulty i rs (read limit ws) → tray rs ws ≡ result (BadRecord i) ws
   unfolding trayResult
-  faulty-refused i rs h = tray-is rs ∙ rw (found-faulty (read limit ws) i rs h)
+  faulty-refused i rs h =
+      let refused : trayResult rs ws (read limit ws) ≡ result (BadRecord i) ws = ap (λ (f : Found). onFaultless f ws (carriedOut rs)) (found-faulty (read limit ws) i rs h) in
+      tray-is rs ∙ refused
 
   refused-at : (rs : List Withdrawal) → allLive rs ws ≡ false → (i : ℕ) × FirstFaulty i rs (read limit ws) × (tray rs ws ≡ result (BadRecord i) ws)
   unfolding allLive

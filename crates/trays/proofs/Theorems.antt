@@ -55,7 +55,8 @@ module _ (ws : List ℕ) (formed : wellFormed limit ws ≡ true) where
         live-accepted ws formed ss (sym live-same ∙ accepted-live ws formed rs a)
         ∙ ap (λ (s : List ℕ). result (Done 0) s) (sym removals-alike) ∙ sym (done-end rs a)
 
-  same-end : (rs ss : List Withdrawal) → SameRecords rs ss → SameEnd rs ss ws
+  -- trays of the same records end alike, accepted or refused
+  pub same-end : (rs ss : List Withdrawal) → SameRecords rs ss → SameEnd rs ss ws
   same-end rs ss q =
       ⊎-elim
       (λ a. equal (sym (accepted-alike rs ss q (a .0))))
