@@ -20,7 +20,10 @@ use Rattle.edits.proofs.Outcomes.{add-vertex-goes, add-hyperedge-goes, update-g
 use Rattle.removals.specs.Removals
 use Rattle.removals.specs.Removals.{Removal, removeAll, withdrawn}
 use Rattle.removals.proofs.Theorems.{removals-formed, removals-content, vertex-was-live, hyperedge-was-live}
-use Rattle.calls.specs.Calls.{Edit, addVertex, addHyperedge, update, merge, remove, edit}
+use Rattle.trays.specs.declared.Withdrawal.{Withdrawal}
+use Rattle.trays.specs.Outcomes.{left}
+use Rattle.trays.proofs.Answered.{left-removals}
+use Rattle.calls.specs.Calls.{Edit, addVertex, addHyperedge, update, merge, remove, withdraw, edit}
 use Rattle.demands.specs.Numbers.{Kind, vertices, hyperedges, ofKind, live, nextNumber, answered, givenBy}
 
 -- from the words ws to the words s, with the numbers given between them: none, and nothing is live that was not; or the next one, and it is live
@@ -128,6 +131,10 @@ module _ (ws : List ℕ) (formed : wellFormed limit ws ≡ true) where
   removed : (k : Kind) (rs : List Removal) → Moved k ws (removeAll rs ws) []
   removed k rs = kept (removals-formed ws formed rs) (removed-next k rs) (removed-live k rs)
 
+  -- a tray, accepted or refused, leaves what a list of removals leaves
+  withdrawn-tray : (k : Kind) (rs : List Withdrawal) → Moved k ws (left rs ws) []
+  withdrawn-tray k rs = let q = left-removals ws formed rs in rw (q .1) (removed k (q .0))
+
   -- every edit
   pub edit-moved : (k : Kind) (e : Edit) → Moved k ws (edit e ws .lent) (givenBy k e ws)
   unfolding edit givenBy removeAll Removals.remove
@@ -136,3 +143,4 @@ module _ (ws : List ℕ) (formed : wellFormed limit ws ≡ true) where
   edit-moved k (update x ms) = updated k x ms
   edit-moved k (merge v w) = merged k v w
   edit-moved k (remove r) = removed k (r ∷ [])
+  edit-moved k (withdraw rs) = withdrawn-tray k rs

@@ -29,7 +29,7 @@ use Rattle.trays.proofs.Answered.{kind-1, live-accepted, accepted-live,
 -- ---- the same records
 
 -- in another order
-order-same : {rs ss : List Withdrawal} → Permutes rs ss → SameRecords rs ss
+pub order-same : {rs ss : List Withdrawal} → Permutes rs ss → SameRecords rs ss
 order-same q p = any-permutes p q
 
 -- one of them once more, wherever it stands
