@@ -4,24 +4,26 @@ use mathlib.Core.Bool.{Bool, true, cond}
 use mathlib.Core.List.{List, [], _∷_, _++_, map, map-map}
 use Prim.Native.Nat.{ℕ, _+_}
 use lib.Dec.{eqb}
-use borrow.Author.Tests.{ne-eqb}
 use Rattle.lists.specs.Lists.{any, memb, filter, otherThan}
-use Rattle.lists.proofs.Cases.{on, on-same, clash, and-right, or-right}
+use Rattle.lists.proofs.Cases.{on}
 use Rattle.lists.proofs.Kept.{any-map, any-kept}
-use Rattle.lists.proofs.Memb.{any-memb, memb-self}
-use Rattle.layout.specs.Content.{Hyperedge, Table, vertexNumber, hyperedgeNumber, liveVertices, liveHyperedges}
+use Rattle.lists.proofs.Memb.{any-memb}
+use Rattle.layout.specs.Content.{Table, vertexNumber, hyperedgeNumber, liveVertices, liveHyperedges}
 use Rattle.layout.specs.Layout.{limit, read, words}
 use Rattle.layout.specs.WellFormed.{wellFormed, holdable}
 use Rattle.layout.proofs.Back.{read-words, words-formed, read-holdable}
 use Rattle.edits.specs.Edits
-use Rattle.edits.specs.Results.{identical, membersOf}
+use Rattle.edits.specs.Results.{identical}
 use Rattle.edits.proofs.AddHoldable.{add-vertex-live, add-hyperedge-live, update-live}
 use Rattle.edits.proofs.Merged.{merge-is, merge-holdable}
 use Rattle.edits.proofs.Outcomes.{add-vertex-goes, add-hyperedge-goes, update-goes, merge-goes}
 use Rattle.removals.specs.Removals
 use Rattle.removals.specs.Removals.{Removal, removeAll, withdrawn}
-use Rattle.removals.proofs.Theorems.{removals-formed, removals-content, removals-vertex, removals-hyperedge}
-use Rattle.calls.specs.Calls.{Edit, addVertex, addHyperedge, update, merge, remove, edit}
+use Rattle.removals.proofs.Theorems.{removals-formed, removals-content, vertex-was-live, hyperedge-was-live}
+use Rattle.trays.specs.declared.Withdrawal.{Withdrawal}
+use Rattle.trays.specs.Outcomes.{left}
+use Rattle.trays.proofs.Answered.{left-removals}
+use Rattle.calls.specs.Calls.{Edit, addVertex, addHyperedge, update, merge, remove, withdraw, edit}
 use Rattle.demands.specs.Numbers.{Kind, vertices, hyperedges, ofKind, live, nextNumber, answered, givenBy}
 
 -- from the words ws to the words s, with the numbers given between them: none, and nothing is live that was not; or the next one, and it is live
@@ -51,15 +53,6 @@ module _ (k : Kind) (ws : List ℕ) (t : Table) (h : holdable limit t ≡ true) 
 
   to-grown : nextOf k t ≡ nextNumber k ws + 1 → liveOf k t ≡ live k ws ++ (nextNumber k ws ∷ []) → Moved k ws (words limit t) (nextNumber k ws ∷ [])
   to-grown n l = grown (words-formed limit t h) (left-next ∙ n) (left-live ∙ l)
-
--- a hyperedge that has members is live
-members-live : (p : ℕ → Bool) (x : ℕ) (es : List Hyperedge) → any p (membersOf x es) ≡ true → memb x (map hyperedgeNumber es) ≡ true
-unfolding any membersOf
-members-live p x [] e = clash e refl
-members-live p x (f ∷ es) e =
-    on-same (f .number) x
-    (λ q. rw q (memb-self x (map hyperedgeNumber es)))
-    (λ ne. or-right (eqb x (f .number)) (memb x (map hyperedgeNumber es)) (members-live p x es (rw (ne-eqb (f .number) x ne) at e)))
 
 -- a key of one that is kept was a key
 key-kept : {A : Type 0} (p : A → Bool) (f : A → ℕ) (xs : List A) (x : ℕ) → memb x (map f (filter p xs)) ≡ true → memb x (map f xs) ≡ true
@@ -132,11 +125,15 @@ module _ (ws : List ℕ) (formed : wellFormed limit ws ≡ true) where
 
   removed-live : (k : Kind) (rs : List Removal) (x : ℕ) → memb x (live k (removeAll rs ws)) ≡ true → memb x (live k ws) ≡ true
   unfolding live
-  removed-live vertices rs x m = and-right _ _ (sym (removals-vertex ws formed rs x) ∙ m)
-  removed-live hyperedges rs x m = members-live _ x _ (and-right _ _ (sym (removals-hyperedge ws formed rs x) ∙ m))
+  removed-live vertices rs x m = vertex-was-live ws formed rs x m
+  removed-live hyperedges rs x m = hyperedge-was-live ws formed rs x m
 
   removed : (k : Kind) (rs : List Removal) → Moved k ws (removeAll rs ws) []
   removed k rs = kept (removals-formed ws formed rs) (removed-next k rs) (removed-live k rs)
+
+  -- a tray, accepted or refused, leaves what a list of removals leaves
+  withdrawn-tray : (k : Kind) (rs : List Withdrawal) → Moved k ws (left rs ws) []
+  withdrawn-tray k rs = let q = left-removals ws formed rs in rw (q .1) (removed k (q .0))
 
   -- every edit
   pub edit-moved : (k : Kind) (e : Edit) → Moved k ws (edit e ws .lent) (givenBy k e ws)
@@ -146,3 +143,4 @@ module _ (ws : List ℕ) (formed : wellFormed limit ws ≡ true) where
   edit-moved k (update x ms) = updated k x ms
   edit-moved k (merge v w) = merged k v w
   edit-moved k (remove r) = removed k (r ∷ [])
+  edit-moved k (withdraw rs) = withdrawn-tray k rs

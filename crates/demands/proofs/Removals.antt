@@ -7,7 +7,7 @@ use native.Mathlib.Nat.{le-trans}
 use native.Mathlib.Omega.{arith}
 use lib.ListN.{length}
 use Rattle.lists.specs.Lists.{filter}
-use Rattle.lists.proofs.Cases.{on, on-below, and-right}
+use Rattle.lists.proofs.Cases.{on, on-below}
 use Rattle.lists.proofs.Kept.{filter-length}
 use Rattle.lists.proofs.Maps.{map-length}
 use Rattle.walks.specs.Walks.{Reach}
@@ -24,7 +24,7 @@ use Rattle.traversal.proofs.Walks.{reachable-walk, walk-reachable}
 use Rattle.structural.specs.Components.{liveCount}
 use Rattle.structural.specs.Sort.{ClosedIn}
 use Rattle.removals.specs.Removals.{Removal, removeAll, keptVertex, withdrawn}
-use Rattle.removals.proofs.Theorems.{removals-formed, removals-content, removals-words, removals-permute, removals-reach, removals-closed, removals-vertex}
+use Rattle.removals.proofs.Theorems.{removals-formed, removals-content, removals-words, removals-permute, removals-reach, removals-closed, vertex-was-live}
 use Rattle.demands.specs.Sort.{sortCall, Sorts}
 use Rattle.demands.specs.Removals.{AnswersYes, Withdraws}
 use Rattle.demands.proofs.Sort.{nine-or-smallest}
@@ -66,14 +66,10 @@ fewer-left rs t =
     omega (arith, map-length vertexNumber left, map-length vertexNumber (t .vertices), filter-length (keptVertex rs) (t .vertices))
 
 module _ (rs : List Removal) (ws : List ℕ) (formed : wellFormed limit ws ≡ true) where
-  -- what is live was live
-  was-live : (v : ℕ) → isLive (liveVertices (read limit (removeAll rs ws))) v ≡ true → isLive (liveVertices (read limit ws)) v ≡ true
-  was-live v l = and-right _ _ (sym (removals-vertex ws formed rs v) ∙ l)
-
   was-reached : (x y : ℕ) → Reached (read limit (removeAll rs ws)) x y → Reached (read limit ws) x y
   was-reached x y h = record {
-    from-live = was-live x (h .from-live);
-    to-live = was-live y (h .to-live);
+    from-live = vertex-was-live ws formed rs x (h .from-live);
+    to-live = vertex-was-live ws formed rs y (h .to-live);
     walk = removals-reach ws formed rs x y (h .walk);
   }
 

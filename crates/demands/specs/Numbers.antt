@@ -10,7 +10,7 @@ use Rattle.layout.specs.Layout.{limit, read}
 use Rattle.layout.specs.WellFormed.{wellFormed}
 use Rattle.layout.specs.Answers.{Result}
 use Rattle.edits.specs.Results.{identical}
-use Rattle.calls.specs.Calls.{Edit, addVertex, addHyperedge, update, merge, remove, edit, after}
+use Rattle.calls.specs.Calls.{Edit, addVertex, addHyperedge, update, merge, remove, withdraw, edit, after}
 
 -- ---- the two kinds
 
@@ -46,6 +46,7 @@ givenBy k (addHyperedge ms w) ws =
 givenBy k (update x ms) ws = []
 givenBy k (merge v w) ws = []
 givenBy k (remove r) ws = []
+givenBy k (withdraw rs) ws = []
 
 -- the numbers of the kind that one call for each of the list gives, in that order
 unfoldable pub given : Kind → List Edit → List ℕ → List ℕ

@@ -1,12 +1,13 @@
 -- What one call leaves of a well-formed table in which no list has two equal neighbours. Assumes nothing.
 use mathlib.Core.Path.{_≡_, refl, ap, _∙_}
 use mathlib.Core.Bool.{true, false}
-use mathlib.Core.List.{List}
+use mathlib.Core.Logic.{⊎-elim}
+use mathlib.Core.List.{List, [], _∷_, map}
 use Prim.Native.Nat.{ℕ}
 use lib.ListN.{length, replicate}
 use borrow.Author.Tests.{eq-eqb}
-use Rattle.lists.specs.Lists.{all, tab}
-use Rattle.lists.proofs.Cases.{on, clash}
+use Rattle.lists.specs.Lists.{all, any, tab}
+use Rattle.lists.proofs.Cases.{on, clash, or-false-left, or-false-right}
 use Rattle.layout.specs.Content.{Table, liveHyperedges, isLive}
 use Rattle.layout.specs.Layout.{limit, size, read, words}
 use Rattle.layout.specs.WellFormed.{wellFormed, holdable}
@@ -19,9 +20,14 @@ use Rattle.edits.proofs.Holdable.{remove-hyperedge-holdable}
 use Rattle.edits.proofs.Merged.{merge-holdable}
 use Rattle.edits.proofs.Outcomes.{add-vertex-goes, add-hyperedge-goes, update-goes, merge-goes}
 use Rattle.edits.proofs.StaysFormed.{clear-stays}
-use Rattle.removals.specs.Removals.{vertex, hyperedge, removal}
-use Rattle.calls.specs.Calls.{addVertex, addHyperedge, update, merge, remove, edit}
-use Rattle.neighbours.specs.Neighbours.{noneTwice, NoneTwice, Call, anEdit, clear, readText, call, mayBring}
+use Rattle.removals.specs.Removals
+use Rattle.removals.specs.Removals.{vertex, hyperedge, removal, removeAll}
+use Rattle.trays.specs.declared.Withdrawal.{Withdrawal}
+use Rattle.trays.specs.Trays.{asked}
+use Rattle.trays.specs.Outcomes.{left}
+use Rattle.trays.proofs.Answered.{all-or-none}
+use Rattle.calls.specs.Calls.{addVertex, addHyperedge, update, merge, remove, withdraw, edit}
+use Rattle.neighbours.specs.Neighbours.{noneTwice, NoneTwice, Call, anEdit, clear, readText, call, ofVertex, mayBring}
 use Rattle.neighbours.proofs.Content.{vertex-added, hyperedge-added, hyperedge-updated, vertices-merged, hyperedge-removed}
 
 -- words of a table in which no list has two equal neighbours
@@ -57,13 +63,29 @@ module _ (ws : List ℕ) (u : Unequal ws) where
       (λ l. rw l (words-unequal _ (remove-hyperedge-holdable limit x (read limit ws) held) (hyperedge-removed (read limit ws) (u .none-twice) x)))
       (λ l. rw l u)
 
+  hyperedge-taken : (x : ℕ) → Unequal (removal (hyperedge x) ws .lent)
+  unfolding removal
+  hyperedge-taken x = rw (formed-result ws ws (removeHyperedgeResult x ws) (u .formed)) (removed x)
+
   cleared : Unequal (clearResult ws .lent)
   unfolding clearResult
   cleared = record { formed = clear-stays ws sized; none-twice = rw (eq-eqb (length ws) (size limit) sized) zeros-none }
 
+-- the removals that a tray with no record of a vertex asks for are removals of hyperedges
+records-taken : (rs : List Withdrawal) (ws : List ℕ) → Unequal ws → any ofVertex rs ≡ false → Unequal (removeAll (map asked rs) ws)
+unfolding any removeAll Removals.remove asked ofVertex
+records-taken [] ws u q = u
+records-taken (w ∷ rs) ws u q =
+    rw (or-false-left (ofVertex w) (any ofVertex rs) q)
+    (records-taken rs (removal (hyperedge (w .number)) ws .lent) (hyperedge-taken ws u (w .number)) (or-false-right (ofVertex w) (any ofVertex rs) q))
+
+module _ (ws : List ℕ) (u : Unequal ws) where
+  withdrawn-tray : (rs : List Withdrawal) → any ofVertex rs ≡ false → Unequal (left rs ws)
+  withdrawn-tray rs q = ⊎-elim (λ a. rw (a .1) (records-taken rs ws u q)) (λ f. rw (f .1) u) (all-or-none ws (u .formed) rs)
+
   -- every call but those that may bring equals together, done or refused
   pub call-keeps : (c : Call) → mayBring c ≡ false → Unequal (call c ws .lent)
-  unfolding call edit removal mayBring
+  unfolding call edit mayBring
   call-keeps (anEdit (addVertex w)) q =
       add-vertex-goes LeavesUnequal ws (u .formed) (λ a n. u) w (λ h. words-unequal _ h (vertex-added (read limit ws) (u .none-twice) w))
   call-keeps (anEdit (addHyperedge ms w)) q =
@@ -73,8 +95,9 @@ module _ (ws : List ℕ) (u : Unequal ws) where
       update-goes LeavesUnequal ws (u .formed) (λ a n. u) x ms (λ differ h. words-unequal _ h (hyperedge-updated (read limit ws) (u .none-twice) ms differ x))
   call-keeps (anEdit (merge v w)) q =
       merge-goes LeavesUnequal ws (u .formed) (λ a n. u) v w
-      (λ m. words-unequal _ (merge-holdable limit v w (read limit ws) held (m .kept-live)) (vertices-merged (read limit ws) (u .none-twice) limit v w held m))
+      (λ m. words-unequal _ (merge-holdable limit v w (read limit ws) (held ws u) (m .kept-live)) (vertices-merged (read limit ws) (u .none-twice) limit v w (held ws u) m))
   call-keeps (anEdit (remove (vertex v))) q = clash refl q
-  call-keeps (anEdit (remove (hyperedge x))) q = rw (formed-result ws ws (removeHyperedgeResult x ws) (u .formed)) (removed x)
-  call-keeps clear q = cleared
+  call-keeps (anEdit (remove (hyperedge x))) q = hyperedge-taken ws u x
+  call-keeps (anEdit (withdraw rs)) q = withdrawn-tray rs q
+  call-keeps clear q = cleared ws u
   call-keeps (readText text) q = clash refl q

@@ -1,7 +1,7 @@
--- The removal of a vertex and the read of a text, each with a table in which it brings equals together. Assumes nothing.
+-- The removal of a vertex, a tray with a record of one and the read of a text, each with a table in which it brings equals together. Assumes nothing.
 use mathlib.Core.Path.{_≡_, refl, ap, _∙_}
 use mathlib.Core.Bool.{true, false}
-use mathlib.Core.List.{List}
+use mathlib.Core.List.{List, [], _∷_}
 use Prim.Native.Nat.{ℕ}
 use lib.ListN.{length}
 use borrow.Author.Tests.{eq-eqb, ltb-true}
@@ -19,14 +19,16 @@ use Rattle.layout.proofs.Answers.{formed-result}
 use Rattle.layout.proofs.Back.{read-words, words-formed}
 use Rattle.layout.proofs.Holdable.{Holdable, holdable-of}
 use Rattle.edits.specs.Edits.{without, hasMembers, removeVertex}
-use Rattle.edits.specs.Results.{removeVertexResult}
-use Rattle.removals.specs.Removals.{vertex, removal}
+use Rattle.edits.specs.Results.{removeVertexResult, firstPassingFrom, firstPassing}
+use Rattle.removals.specs.Removals.{vertex, removal, isVertex, isHyperedge, staysVertex, staysHyperedge, keptVertex, keptHyperedge, thinned, withdrawn}
+use Rattle.trays.specs.declared.Withdrawal.{Withdrawal}
+use Rattle.trays.specs.Trays.{namesLive, isFaulty, asked, trayResult, tray}
 use Rattle.frames.specs.Frames.{frameText}
 use Rattle.frames.specs.Reading.{readResult}
 use Rattle.frames.specs.Faulty.{isWord}
 use Rattle.frame_laws.proofs.Held.{Worded}
 use Rattle.frame_laws.proofs.Written.{text-accepted, text-content}
-use Rattle.calls.specs.Calls.{remove, edit}
+use Rattle.calls.specs.Calls.{remove, withdraw, edit}
 use Rattle.neighbours.specs.Neighbours.{neighboursDiffer, noneTwice, Call, anEdit, readText, call, afterCalls, Brings, Between, Together}
 
 -- ---- the two tables
@@ -73,6 +75,21 @@ removal-brings =
     let ws : List ℕ = words limit Between in
     brings-by (anEdit (remove (vertex 1))) (formed-result ws ws (removeVertexResult 1 ws) between-formed
     ∙ ap (removeVertexResult 1 ws) (read-words limit Between between-holdable) ∙ removed-is ws)
+
+-- the same in a tray
+abbrev vertexRecord : Withdrawal
+vertexRecord = record { kind = 0; number = 1 }
+
+tray-is : (ws : List ℕ) → trayResult (vertexRecord ∷ []) ws Between ≡ result (Done 0) (words limit Together)
+unfolding trayResult firstPassing firstPassingFrom isFaulty namesLive asked withdrawn keptVertex keptHyperedge thinned staysVertex staysHyperedge isVertex isHyperedge any filter hasMembers
+tray-is ws = refl
+
+pub tray-brings : Brings (anEdit (withdraw (vertexRecord ∷ []))) (words limit Between)
+unfolding call edit tray
+tray-brings =
+    let ws : List ℕ = words limit Between in
+    brings-by (anEdit (withdraw (vertexRecord ∷ []))) (formed-result ws ws (trayResult (vertexRecord ∷ []) ws) between-formed
+    ∙ ap (trayResult (vertexRecord ∷ []) ws) (read-words limit Between between-holdable) ∙ tray-is ws)
 
 -- the text of a table with the list [0,0]
 together-worded : Worded Together

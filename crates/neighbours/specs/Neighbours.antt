@@ -3,7 +3,8 @@ use mathlib.Core.Path.{_≡_}
 use mathlib.Core.Bool.{Bool, true, false, not}
 use mathlib.Core.List.{List, [], _∷_}
 use Prim.Native.Nat.{ℕ}
-use Rattle.lists.specs.Lists.{all}
+use lib.Dec.{eqb}
+use Rattle.lists.specs.Lists.{all, any}
 use Rattle.layout.specs.Content.{vertexOf, hyperedgeOf, Hyperedge, Table}
 use Rattle.layout.specs.Layout.{limit, read}
 use Rattle.layout.specs.WellFormed.{wellFormed}
@@ -11,8 +12,10 @@ use Rattle.layout.specs.Steps.{equalNeighbours, StepIn}
 use Rattle.layout.specs.Answers.{Result}
 use Rattle.edits.specs.Results.{clearResult}
 use Rattle.removals.specs.Removals.{vertex, hyperedge}
+use Rattle.trays.specs.declared.Withdrawal.{Withdrawal}
+use Rattle.trays.specs.Trays.{vertexKind}
 use Rattle.frames.specs.Reading.{readResult}
-use Rattle.calls.specs.Calls.{Edit, addVertex, addHyperedge, update, merge, remove, edit}
+use Rattle.calls.specs.Calls.{Edit, addVertex, addHyperedge, update, merge, remove, withdraw, edit}
 
 -- ---- the tables
 
@@ -54,7 +57,11 @@ unfoldable pub afterCalls : List Call → List ℕ → List ℕ
 afterCalls [] ws = ws
 afterCalls (c ∷ cs) ws = afterCalls cs (call c ws .lent)
 
--- the calls that may bring equals together: the removal of a vertex, and the read of a text
+-- the record is of a vertex
+unfoldable pub ofVertex : Withdrawal → Bool
+ofVertex w = eqb (w .kind) vertexKind
+
+-- the calls that may bring equals together: the removal of a vertex, a tray with a record of one, and the read of a text
 unfoldable pub mayBring : Call → Bool
 mayBring (anEdit (addVertex w)) = false
 mayBring (anEdit (addHyperedge ms w)) = false
@@ -62,6 +69,7 @@ mayBring (anEdit (update x ms)) = false
 mayBring (anEdit (merge v w)) = false
 mayBring (anEdit (remove (vertex v))) = true
 mayBring (anEdit (remove (hyperedge x))) = false
+mayBring (anEdit (withdraw rs)) = any ofVertex rs
 mayBring clear = false
 mayBring (readText text) = true
 

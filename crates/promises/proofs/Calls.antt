@@ -2,8 +2,8 @@
 -- is what the call's promise says that it leaves. Assumes nothing.
 use mathlib.Core.Path.{_≡_, refl}
 use mathlib.Core.Bool.{cond}
-use mathlib.Core.List.{List, [], _∷_, _++_, append-nil}
-use Prim.Native.Nat.{ℕ}
+use mathlib.Core.List.{List, [], _∷_, _++_, map, append-nil}
+use Prim.Native.Nat.{ℕ, zero}
 use lib.Dec.{eqb}
 use lib.ListN.{length, replicate}
 use Rattle.lists.specs.Tests.{bit}
@@ -13,7 +13,10 @@ use Rattle.layout.specs.Content.{Table, liveVertices, liveHyperedges}
 use Rattle.layout.specs.Layout.{vertexLimit, hyperedgeLimit, limit, size, words, read}
 use Rattle.layout.specs.Answers.{Result, result, onFormed, onLive, listed, vertexMissing, hyperedgeMissing, onLiveVertices}
 use Rattle.edits.specs.Edits.{mergeVertices}
-use Rattle.edits.specs.Results.{addVertexResult, addHyperedgeResult, updateResult, removeVertexResult, mergeResult, removeHyperedgeResult, clearResult, emptyResult}
+use Rattle.edits.specs.Results.{addVertexResult, addHyperedgeResult, updateResult, removeVertexResult, mergeResult, removeHyperedgeResult, clearResult, emptyResult, firstPassing}
+use Rattle.removals.specs.Removals.{withdrawn}
+use Rattle.trays.specs.declared.Withdrawal.{Withdrawal}
+use Rattle.trays.specs.Trays.{asked, trayResult}
 use Rattle.lookups.specs.declared.Direction.{Direction}
 use Rattle.lookups.specs.declared.Relation.{Relation}
 use Rattle.lookups.specs.declared.Listing.the-variants.{Connecting, Weighing, Holding}
@@ -32,8 +35,8 @@ use Rattle.walk.specs.Walk.{walk, walkResult}
 use Rattle.frames.specs.Frames.{frameText, writeResult}
 use Rattle.frames.specs.Reading.{contentOf, accepted, faultyLine, readResult}
 use Rattle.sort_sheet.specs.Sheet.{sheetResult}
-use Rattle.promises.specs.Refusals.{Judged, content, unformed, unsized, deadVertices, closedWalk, noRoom, beside, addVertexGrounds, addHyperedgeGrounds, updateGrounds, vertexGrounds, mergeGrounds, hyperedgeGrounds, listingGrounds, intersectionsGrounds, sortGrounds, badText, readGrounds, sheetGrounds}
-use Rattle.promises.proofs.Refusals.{none-refused, off-ground, live-judged, some-judged, short-judged, room-judged, number-judged, new-judged, changed-judged, other-judged, unequal-judged, apart-judged, several-judged, formed-judged, listed-judged}
+use Rattle.promises.specs.Refusals.{Judged, content, unformed, unsized, deadVertices, closedWalk, noRoom, beside, faultyRecords, addVertexGrounds, addHyperedgeGrounds, updateGrounds, vertexGrounds, mergeGrounds, hyperedgeGrounds, trayGrounds, listingGrounds, intersectionsGrounds, sortGrounds, badText, readGrounds, sheetGrounds}
+use Rattle.promises.proofs.Refusals.{none-refused, off-ground, live-judged, some-judged, short-judged, room-judged, number-judged, new-judged, changed-judged, other-judged, unequal-judged, apart-judged, faultless-judged, several-judged, formed-judged, listed-judged}
 
 -- ---- edits
 
@@ -79,6 +82,13 @@ pub remove-hyperedge-judged : (x : ℕ) (ws : List ℕ) → Judged (hyperedgeGro
 unfolding removeHyperedgeResult
 remove-hyperedge-judged x ws =
     formed-judged ws (removeHyperedgeResult x ws) (live-judged (none-refused refl) (liveHyperedges (read limit ws)) hyperedgeMissing (x ∷ []))
+
+pub tray-judged : (rs : List Withdrawal) (ws : List ℕ) → Judged (trayGrounds rs ws) ws (onFormed ws ws (trayResult rs ws))
+unfolding trayResult firstPassing
+tray-judged rs ws =
+    let t = read limit ws in
+    let fifteen = rw (append-nil (faultyRecords t rs)) at (faultless-judged (none-refused {lent = ws} {r = result (Done 0) (words limit (withdrawn (map asked rs) t))} refl) t zero rs) in
+    formed-judged ws (trayResult rs ws) fifteen
 
 pub clear-judged : (ws : List ℕ) → Judged (unsized ws ∷ []) ws (clearResult ws)
 unfolding clearResult

@@ -9,16 +9,20 @@ use lib.ListN.{length}
 use Rattle.lists.specs.Tests.{_and_}
 use Rattle.lists.specs.Lists.{any, over}
 use Rattle.lists.proofs.Cases.{on}
+use Rattle.layout.specs.declared.Found.{Found}
+use Rattle.layout.specs.declared.Found.the-variants.{At}
 use Rattle.layout.specs.declared.Answer.{Answer}
-use Rattle.layout.specs.declared.Answer.the-variants.{Done}
+use Rattle.layout.specs.declared.Answer.the-variants.{Done, BadRecord}
 use Rattle.layout.specs.Content.{Hyperedge, Table, isLive}
 use Rattle.layout.specs.Layout.{limit, read}
 use Rattle.layout.specs.WellFormed.{wellFormed}
 use Rattle.layout.specs.Steps.{stepsOf, sameEnds}
 use Rattle.layout.specs.Answers.{Result, result, onFormed, onLive, fits, listed}
-use Rattle.edits.specs.Results.{hasSome, onSome, isShort, onShort, hasRoom, onRoom, isSpent, onNumber, onFirst, byNumber, onNew, equalsOld, onChanged, identical, isSame, onOther, sideBySide, sideBySideIn, onApart, twiceInARow, onUnequal}
+use Rattle.edits.specs.Results.{hasSome, onSome, isShort, onShort, hasRoom, onRoom, isSpent, onNumber, onFirst, byNumber, onNew, equalsOld, onChanged, identical, isSame, onOther, sideBySide, sideBySideIn, onApart, twiceInARow, onUnequal, firstPassingFrom}
+use Rattle.trays.specs.declared.Withdrawal.{Withdrawal}
+use Rattle.trays.specs.Trays.{isFaulty, onFaultless}
 use Rattle.lookups.specs.Results.{isFew, onSeveral}
-use Rattle.promises.specs.Refusals.{Ground, first, Judged, unformed, noMembers, missing, sameMembers, tooMany, full, spent, tooFew, noRoom, sameVertex, beside, equalNext, unless}
+use Rattle.promises.specs.Refusals.{Ground, first, Judged, unformed, noMembers, missing, sameMembers, tooMany, full, spent, tooFew, noRoom, sameVertex, beside, faultyRecord, faultyFrom, equalNext, unless}
 
 -- ---- what a judged call keeps to
 
@@ -116,6 +120,20 @@ module _ {gs : List Ground} {lent : List ℕ} {r : Result} (j : Judged gs lent r
 
   pub apart-judged : (v w : ℕ) (t : Table) → Judged (beside v w t ++ gs) lent (onApart v w (t .hyperedges) lent r)
   apart-judged v w t = first-judged (sideBySide v w) (byNumber sideBySideIn) (t .hyperedges)
+
+-- 15, or what comes after
+fault-first : (b : Bool) (i : ℕ) (f : Found) (lent : List ℕ) (r : Result) → onFaultless (cond b (At i) f) lent r ≡ cond b (result (BadRecord i) lent) (onFaultless f lent r)
+fault-first true i f lent r = refl
+fault-first false i f lent r = refl
+
+pub faultless-judged : {gs : List Ground} {lent : List ℕ} {r : Result} → Judged gs lent r → (t : Table) (i : ℕ) (rs : List Withdrawal)
+    → Judged (faultyFrom t i rs ++ gs) lent (onFaultless (firstPassingFrom (isFaulty t) i rs) lent r)
+unfolding faultyFrom firstPassingFrom
+faultless-judged j t i [] = j
+faultless-judged {gs} {lent} {r} j t i (w ∷ rs) =
+    let rest : Result = onFaultless (firstPassingFrom (isFaulty t) (suc i) rs) lent r in
+    rw (fault-first (isFaulty t w) i (firstPassingFrom (isFaulty t) (suc i) rs) lent r)
+    (on-ground (faultyFrom t (suc i) rs ++ gs) lent rest (faultless-judged j t (suc i) rs) (faultyRecord t i w) (isFaulty t w) refl)
 
 pub formed-judged : (ws : List ℕ) (f : Table → Result) {lent : List ℕ} {gs : List Ground} → Judged gs lent (f (read limit ws)) → Judged (unformed ws ∷ gs) lent (onFormed ws lent f)
 unfolding onFormed

@@ -3,19 +3,21 @@ use mathlib.Core.Path.{_≡_}
 use mathlib.Core.Bool.{Bool, cond, not}
 use mathlib.Core.List.{List, [], _∷_, _++_, map}
 use mathlib.Core.Option.{Option, some, none}
-use Prim.Native.Nat.{ℕ}
+use Prim.Native.Nat.{ℕ, zero, suc}
 use lib.Dec.{eqb}
 use lib.ListN.{length}
 use Rattle.lists.specs.Tests.{_and_}
 use Rattle.lists.specs.Lists.{any}
 use Rattle.layout.specs.declared.Answer.{Answer}
-use Rattle.layout.specs.declared.Answer.the-variants.{NotWellFormed, NoMembers, SameMembers, TooManyMembers, Full, NumbersSpent, ClosedWalk, TooFewHyperedges, NoRoom, BadText, SameVertex}
+use Rattle.layout.specs.declared.Answer.the-variants.{NotWellFormed, NoMembers, SameMembers, TooManyMembers, Full, NumbersSpent, ClosedWalk, TooFewHyperedges, NoRoom, BadText, SameVertex, BadRecord}
 use Rattle.layout.specs.Content.{Hyperedge, Table, liveVertices, liveHyperedges, isLive}
 use Rattle.layout.specs.Layout.{vertexLimit, hyperedgeLimit, limit, size, read}
 use Rattle.layout.specs.WellFormed.{wellFormed}
 use Rattle.layout.specs.Steps.{Step, stepsOf, sameEnds}
 use Rattle.layout.specs.Answers.{Result, result, vertexMissing, hyperedgeMissing, fits}
 use Rattle.edits.specs.Results.{hasSome, isShort, hasRoom, isSpent, equalsOld, identical, isSame, sideBySide, sideBySideIn, twiceInARow}
+use Rattle.trays.specs.declared.Withdrawal.{Withdrawal}
+use Rattle.trays.specs.Trays.{isFaulty}
 use Rattle.lookups.specs.Results.{isFew}
 use Rattle.structural.specs.Sort.{sortOf, acyclic}
 use Rattle.frames.specs.Reading.{contentOf, accepted, faultyLine}
@@ -105,6 +107,19 @@ besideIn v w e = record { answer = sideBySideIn (e .number); applies = sideBySid
 abbrev pub beside : ℕ → ℕ → Table → List Ground
 beside v w t = map (besideIn v w) (t .hyperedges)
 
+-- 15: the record at place i is of another kind or not live
+abbrev pub faultyRecord : Table → ℕ → Withdrawal → Ground
+faultyRecord t i w = record { answer = BadRecord i; applies = isFaulty t w }
+
+-- 15, for each record in turn, its place counted from i
+unfoldable pub faultyFrom : Table → ℕ → List Withdrawal → List Ground
+faultyFrom t i [] = []
+faultyFrom t i (w ∷ rs) = faultyRecord t i w ∷ faultyFrom t (suc i) rs
+
+-- the same, counted from 0
+abbrev pub faultyRecords : Table → List Withdrawal → List Ground
+faultyRecords t rs = faultyFrom t zero rs
+
 -- 20: the list has equal neighbours at the place
 abbrev pub equalAt : Step → Ground
 equalAt s = record { answer = twiceInARow s; applies = sameEnds s }
@@ -156,6 +171,10 @@ mergeGrounds v w ws =
 -- remove hyperedge 1, 4
 abbrev pub hyperedgeGrounds : ℕ → List ℕ → List Ground
 hyperedgeGrounds x ws = unformed ws ∷ deadHyperedges (content ws) (x ∷ [])
+
+-- withdraw a tray 1, 15
+abbrev pub trayGrounds : List Withdrawal → List ℕ → List Ground
+trayGrounds rs ws = unformed ws ∷ faultyRecords (content ws) rs
 
 -- queries 1, then their own refusal, then 11
 abbrev pub listingGrounds : List ℕ → List ℕ → List ℕ → List ℕ → List Ground

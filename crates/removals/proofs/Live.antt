@@ -4,13 +4,14 @@ use mathlib.Core.Bool.{Bool, true, false}
 use mathlib.Core.List.{List, [], _∷_, map, map-map}
 use Prim.Native.Nat.{ℕ}
 use native.Mathlib.Nat.{lt-irrefl, zero-lt-suc}
-use lib.Dec.{ltb}
+use lib.Dec.{eqb, ltb}
 use lib.ListN.{length}
 use borrow.Author.Tests.{eq-eqb, ne-eqb, lt-ltb, ltb-true}
 use Rattle.lists.specs.Tests.{_and_}
 use Rattle.lists.specs.Lists.{all, any, memb, filter, ascending}
-use Rattle.lists.proofs.Cases.{on, on-same, and-left, and-right}
+use Rattle.lists.proofs.Cases.{on, on-same, clash, and-left, and-right, or-right}
 use Rattle.lists.proofs.Kept.{filter-map, filter-swap, keys-kept, memb-filter}
+use Rattle.lists.proofs.Memb.{memb-self}
 use Rattle.layout.specs.Content.{Hyperedge, Table, vertexNumber, hyperedgeNumber, liveVertices, liveHyperedges, isLive, numbered, valid}
 use Rattle.layout.specs.WellFormed.{holdable}
 use Rattle.edits.specs.Edits.{hasMembers}
@@ -24,6 +25,15 @@ module _ (rs : List Removal) (t : Table) where
   live-vertex v = ap (memb v) (sym (filter-map vertexNumber (staysVertex rs) (t .vertices))) ∙ memb-filter (staysVertex rs) v (liveVertices t)
 
 -- ---- hyperedges
+
+-- one that has members is live
+pub members-live : (p : ℕ → Bool) (x : ℕ) (es : List Hyperedge) → any p (membersOf x es) ≡ true → memb x (map hyperedgeNumber es) ≡ true
+unfolding any membersOf
+members-live p x [] e = clash e refl
+members-live p x (f ∷ es) e =
+    on-same (f .number) x
+    (λ q. rw q (memb-self x (map hyperedgeNumber es)))
+    (λ ne. or-right (eqb x (f .number)) (memb x (map hyperedgeNumber es)) (members-live p x es (rw (ne-eqb (f .number) x ne) at e)))
 
 -- one stays of a list, or it is emptied
 some-stay : (p : ℕ → Bool) (ms : List ℕ) → ltb 0 (length (filter p ms)) ≡ any p ms

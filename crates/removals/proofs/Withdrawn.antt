@@ -8,14 +8,13 @@ use lib.Dec.{eqb}
 use borrow.Author.Tests.{ltb-false, le-ltb, ne-eqb}
 use Rattle.lists.specs.Tests.{_and_}
 use Rattle.lists.specs.Lists.{any, filter, otherThan, itself}
-use Rattle.lists.proofs.Cases.{clash, and-left, or-right}
+use Rattle.lists.proofs.Cases.{clash, and-left}
 use Rattle.lists.proofs.Kept.{map-ext, filter-ext, all-always, all-then, map-whole, filter-map, filter-length, filter-whole, filter-filter, filter-swap, filter-late, all-other}
 use Rattle.layout.specs.Content.{Vertex, Hyperedge, Table, vertexNumber, hyperedgeNumber, liveVertices, liveHyperedges, isLive, membersLive}
 use Rattle.layout.specs.WellFormed.{countFits, holdable}
 use Rattle.layout.proofs.Holdable.{Holdable, holdable-of}
 use Rattle.edits.specs.Edits.{without, hasMembers, removeVertex, removeHyperedge}
 use Rattle.edits.proofs.Holdable.{remove-vertex-holdable, remove-hyperedge-holdable}
-use Rattle.removals.specs.Orders.{Permutes, same, swap, behind, then}
 use Rattle.removals.specs.Removals.{Removal, vertex, hyperedge, isVertex, isHyperedge, staysVertex, staysHyperedge, keptVertex, keptHyperedge, thinned, withdrawn}
 
 -- one removal, on the content
@@ -130,25 +129,15 @@ module _ (L : ℕ) (t : Table) (h : holdable L t ≡ true) where
 
 -- ---- any order
 
-or-swap : (a b c : Bool) → (a || (b || c)) ≡ (b || (a || c))
-or-swap a true c = or-right a true refl
-or-swap a false c = refl
-
-any-permutes : {A : Type 0} (p : A → Bool) {xs ys : List A} → Permutes xs ys → any p xs ≡ any p ys
-unfolding any
-any-permutes p same = refl
-any-permutes p (swap {x} {y} {xs}) = or-swap (p x) (p y) (any p xs)
-any-permutes p (behind {x} q) = ap (λ (b : Bool). p x || b) (any-permutes p q)
-any-permutes p (then q r) = any-permutes p q ∙ any-permutes p r
-
-pub withdrawn-permutes : {rs ss : List Removal} → Permutes rs ss → (t : Table) → withdrawn rs t ≡ withdrawn ss t
+-- two lists with the same removals, however often and in whatever order: a test passes at some of the one exactly when at some of the other
+pub withdrawn-same : (rs ss : List Removal) → ((p : Removal → Bool) → any p rs ≡ any p ss) → (t : Table) → withdrawn rs t ≡ withdrawn ss t
 unfolding withdrawn keptVertex keptHyperedge thinned staysVertex staysHyperedge
-withdrawn-permutes {rs} {ss} q t =
+withdrawn-same rs ss q t =
     ap₂ (λ (v x : ℕ → Bool). record {
       nextVertex = t .nextVertex;
       nextHyperedge = t .nextHyperedge;
       vertices = filter (λ (a : Vertex). v (a .number)) (t .vertices);
       hyperedges = filter hasMembers (map (λ (e : Hyperedge). record { number = e .number; weight = e .weight; members = filter v (e .members) }) (filter (λ (e : Hyperedge). x (e .number)) (t .hyperedges)));
     })
-    (fun-ext (λ v. ap not (any-permutes (isVertex v) q)))
-    (fun-ext (λ x. ap not (any-permutes (isHyperedge x) q)))
+    (fun-ext (λ v. ap not (q (isVertex v))))
+    (fun-ext (λ x. ap not (q (isHyperedge x))))

@@ -1,11 +1,13 @@
 -- Cases beside the rules' sheets. Assumes nothing.
 use mathlib.Core.List.{List, [], _∷_}
 use Prim.Native.Nat.{ℕ}
-use Rattle.layout.specs.declared.Answer.the-variants.{Done, NoRoom, SameVertex, EqualNeighbours}
+use Rattle.layout.specs.declared.Answer.the-variants.{Done, NoRoom, SameVertex, BadRecord, EqualNeighbours}
 use Rattle.layout.specs.Content.{Table, hyperedgeOf}
 use Rattle.layout.specs.Layout.{limit, words}
 use Rattle.layout.specs.Answers.{Result, result, vertexMissing}
 use Rattle.edits.specs.Results.{addHyperedgeResult, updateResult, removeVertexResult, sideBySideIn, mergeResult}
+use Rattle.trays.specs.declared.Withdrawal.{Withdrawal}
+use Rattle.trays.specs.Trays.{trayResult}
 use Rattle.lookups.specs.declared.Direction.the-variants.{From, To}
 use Rattle.lookups.specs.declared.Relation.the-variants.{Along, Around}
 use Rattle.lookups.specs.Results.{relatedResult, intersectionsResult, degreeResult, connectingResult, fullHyperedgesResult, fullAdjacentResult, weighingResult, vertexIndexResult}
@@ -57,6 +59,10 @@ Doubled = table (vertex 0 ∷ vertex 1 ∷ vertex 3 ∷ [])
 abbrev pub Single : Table
 Single = table (vertex 0 ∷ vertex 1 ∷ [])
     (hyperedgeOf 0 0 (0 ∷ 1 ∷ 0 ∷ []) ∷ hyperedgeOf 1 2 (0 ∷ 1 ∷ []) ∷ hyperedgeOf 2 2 (0 ∷ 1 ∷ []) ∷ [])
+
+-- only [2]: what is left of K without 0 and 1
+abbrev pub Remnant : Table
+Remnant = table (vertex 2 ∷ []) (hyperedgeOf 2 0 (2 ∷ []) ∷ [])
 
 -- [0,1] thrice, of weights 2, 1 and 1
 abbrev pub Tied : Table
@@ -115,6 +121,50 @@ bounced-update = record { given = held G; query = updateResult 9 (3 ∷ 3 ∷ []
 -- a vertex may stand in a list again, further on: here the list is that of hyperedge 1
 abbrev pub again-further : Case
 again-further = record { given = held K; query = addHyperedgeResult (0 ∷ 1 ∷ 0 ∷ []) 0 (words limit K); answer = result (Done 1) (words limit K) }
+
+-- records of a tray
+abbrev pub vertexRecord : ℕ → Withdrawal
+vertexRecord v = record { kind = 0; number = v }
+
+abbrev pub hyperedgeRecord : ℕ → Withdrawal
+hyperedgeRecord x = record { kind = 1; number = x }
+
+-- a tray on K without 0 and 1: hyperedge 0 is emptied by then, and hyperedge 1 before; repeats change nothing
+abbrev pub tray-emptied : Case
+tray-emptied = record {
+  given = held K;
+  query = trayResult (vertexRecord 0 ∷ vertexRecord 1 ∷ hyperedgeRecord 0 ∷ []) (words limit K);
+  answer = result (Done 0) (words limit Remnant);
+}
+
+abbrev pub tray-repeated : Case
+tray-repeated = record {
+  given = held K;
+  query = trayResult (hyperedgeRecord 1 ∷ vertexRecord 1 ∷ hyperedgeRecord 1 ∷ vertexRecord 0 ∷ vertexRecord 1 ∷ []) (words limit K);
+  answer = result (Done 0) (words limit Remnant);
+}
+
+-- no records: done, and nothing changes
+abbrev pub tray-empty : Case
+tray-empty = record { given = held G; query = trayResult [] (words limit G); answer = result (Done 0) (words limit G) }
+
+-- the first record of another kind or not live, from 0: kind 2; vertex 9; hyperedge 3, though vertex 3 is live
+abbrev pub tray-kind : Case
+tray-kind = record {
+  given = held G;
+  query = trayResult (vertexRecord 0 ∷ record { kind = 2; number = 0 } ∷ []) (words limit G);
+  answer = result (BadRecord 1) (words limit G);
+}
+
+abbrev pub tray-dead : Case
+tray-dead = record {
+  given = held G;
+  query = trayResult (hyperedgeRecord 2 ∷ vertexRecord 9 ∷ vertexRecord 0 ∷ vertexRecord 9 ∷ []) (words limit G);
+  answer = result (BadRecord 1) (words limit G);
+}
+
+abbrev pub tray-other : Case
+tray-other = record { given = held G; query = trayResult (hyperedgeRecord 3 ∷ []) (words limit G); answer = result (BadRecord 0) (words limit G) }
 
 -- adjacent vertices and neighbourhoods
 abbrev pub after-0 : Case
@@ -257,6 +307,7 @@ abbrev pub more : List Case
 more =
     removed-0 ∷ merged-3 ∷ merged-row ∷ beside-K ∷ beside-G ∷ merged-itself ∷ merged-dead
     ∷ bounced ∷ bounced-last ∷ bounced-dead ∷ bounced-identical ∷ bounced-update ∷ again-further
+    ∷ tray-emptied ∷ tray-repeated ∷ tray-empty ∷ tray-kind ∷ tray-dead ∷ tray-other
     ∷ after-0 ∷ before-2 ∷ around-2 ∷ around-4 ∷ full-after-0 ∷ full-before-1
     ∷ full-repeated ∷ out-of-0 ∷ into-1 ∷ connecting-K ∷ connecting-none ∷ weighing-2
     ∷ index-3 ∷ holding-3 ∷ intersecting ∷ intersecting-twice ∷ breadth-first ∷ depth-first

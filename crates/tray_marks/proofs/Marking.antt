@@ -18,8 +18,9 @@ use Rattle.layout.specs.WellFormed.{wellFormed}
 use Rattle.layout.proofs.Read.{formed-of}
 use Rattle.trays.specs.declared.Withdrawal.{Withdrawal}
 use Rattle.trays.specs.Trays.{vertexKind, hyperedgeKind}
+use Rattle.trays.specs.Outcomes.{noRecord}
 use Rattle.tray_marks.specs.declared.Tray.{Tray}
-use Rattle.tray_marks.specs.Marking.{noRecord, OpenFormed, opened, refusedAt, vertexMarked, hyperedgeMarked, judgedFirst, judged, trayFrom, trayOf}
+use Rattle.tray_marks.specs.Marking.{OpenFormed, opened, refusedAt, vertexMarked, hyperedgeMarked, judgedFirst, judged, trayFrom, trayOf}
 
 -- ---- none, and one more
 

@@ -16,10 +16,6 @@ use Rattle.trays.specs.declared.Withdrawal.{Withdrawal}
 use Rattle.trays.specs.Trays.{vertexKind, hyperedgeKind}
 use Rattle.tray_marks.specs.declared.Tray.{Tray}
 
--- what stands past the end of a tray
-abbrev pub noRecord : Withdrawal
-noRecord = record { kind = 0; number = 0 }
-
 -- a tray that was found on a well-formed table
 abbrev pub OpenFormed : Tray → List ℕ → Type 0
 OpenFormed tray ws = tray .formed ≡ true → Formed limit ws

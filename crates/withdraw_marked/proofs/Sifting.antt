@@ -20,7 +20,7 @@ use Rattle.edits.proofs.Laid.{with-vertices}
 use Rattle.marks.specs.Marks.{isMarked}
 use Rattle.sift_vertices.specs.Unmarked.{unmarked}
 use Rattle.sift_vertices.proofs.Unmarked.{unmarked-none, unmarked-in, unmarked-out}
-use Rattle.withdraw_marked.specs.Sparing.{spared, sparing, sparedOf, unmarkedOf}
+use Rattle.withdraw_marked.specs.Sparing.{spared, sparedOf, unmarkedOf}
 use Rattle.withdraw_marked.specs.Sifting.{memberSpared, wordsSpared, hyperedgesLeft, HyperedgesSifted, siftedTable}
 use Rattle.withdraw_marked.proofs.Spared.{vertices-spared, hyperedges-spared}
 
@@ -81,7 +81,7 @@ copy-same ws d old f l e = sym (e ∙ over-all ws d (l ∙ sym (f .shape .sized)
 -- ws₁ the words with the hyperedges that are left, ws₂ with the vertices too
 pub marked-withdrawn : (vertices hyperedges : List Bool) (ws old ws₁ ws₂ : List ℕ) → Formed limit ws → ws ≡ old → ws₁ ≡ words limit (siftedTable vertices hyperedges old)
     → ws₂ ≡ withVertices (unmarked (vertexAt old) vertices (vertexCount old)) ws₁ → ws₂ ≡ words limit (unmarkedOf vertices hyperedges (read limit ws))
-unfolding siftedTable unmarkedOf sparedOf sparing sifted
+unfolding siftedTable unmarkedOf sparedOf sifted
 marked-withdrawn vertices hyperedges ws old ws₁ ws₂ g e e₁ e₂ =
     let f : Formed limit old = rw e at g in
     let p : ℕ → Bool = spared vertices (liveVertices (read limit old)) in

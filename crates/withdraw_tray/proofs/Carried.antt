@@ -16,6 +16,7 @@ use Rattle.layout.specs.Answers.{result, onFormed}
 use Rattle.layout.proofs.Answers.{formed-result}
 use Rattle.layout.proofs.Position.{position-found, missing-dead}
 use Rattle.edits.specs.Results.{firstPassing}
+use Rattle.edits.specs.Removing.{sifted}
 use Rattle.removals.specs.Removals.{Removal, isVertex, isHyperedge, staysVertex, staysHyperedge, keptVertex, keptHyperedge, thinned, withdrawn}
 use Rattle.trays.specs.declared.Withdrawal.{Withdrawal}
 use Rattle.trays.specs.Trays.{isFaulty, asked, trayResult}
@@ -23,7 +24,7 @@ use Rattle.tray_marks.specs.declared.Tray.{Tray}
 use Rattle.tray_marks.specs.Marking.{noMarks, opened, trayOf}
 use Rattle.tray_marks.proofs.Marking.{tray-tested}
 use Rattle.tray_marks.proofs.Named.{Named, none-marked, AllNamed, tray-first, tray-named}
-use Rattle.withdraw_marked.specs.Sparing.{markAt, spared, sparedVertex, sparedHyperedge, sparing, sparedOf, unmarkedOf}
+use Rattle.withdraw_marked.specs.Sparing.{markAt, spared, sparedVertex, sparedHyperedge, sparedOf, unmarkedOf}
 use Rattle.withdraw_tray.specs.Carried.{carriedOut}
 
 -- ---- where no record is faulty
@@ -39,7 +40,7 @@ spared-stays live names rs n marks m x = ap not (go (position x live) refl)
     go Nothing e = sym (m .others x (missing-dead x live e))
 
 unmarked-withdrawn : (ws : List ℕ) (tray : Tray) (t : Table) (rs : List Removal) → AllNamed t rs (opened ws) tray → unmarkedOf (tray .vertices) (tray .hyperedges) t ≡ withdrawn rs t
-unfolding opened unmarkedOf sparedOf sparedVertex sparedHyperedge sparing withdrawn keptVertex keptHyperedge thinned staysVertex staysHyperedge
+unfolding opened unmarkedOf sparedOf sparedVertex sparedHyperedge sifted withdrawn keptVertex keptHyperedge thinned staysVertex staysHyperedge
 unmarked-withdrawn ws tray t rs a =
     ap₂ (λ (p h : ℕ → Bool). sparedOf p h t)
     (fun-ext (spared-stays (liveVertices t) isVertex rs _ (tray .vertices) (a .vertices)))

@@ -47,10 +47,11 @@ use denote.Triple.Walked.{says, Stays, stay-none-slice, walkOf, Walks, ends-at, 
 use denote.Triple.Clauses.{ensured, lasts}
 use denote.Exit.{yes}
 use Rattle.trays.specs.declared.Withdrawal.{Withdrawal}
+use Rattle.trays.specs.Outcomes.{noRecord}
 use Rattle.trays.proofs.Withdrawal as T
 use Rattle.trays.proofs.Withdrawal.Laws as T′
 use Rattle.tray_marks.specs.declared.Tray.{Tray}
-use Rattle.tray_marks.specs.Marking.{OpenFormed, noRecord, opened, judged, trayOf}
+use Rattle.tray_marks.specs.Marking.{OpenFormed, opened, judged, trayOf}
 use Rattle.tray_marks.proofs.Marking.{tray-none, tray-more, tray-formed}
 use Rattle.tray_marks.proofs.Tray as D
 use Rattle.tray_marks.proofs.Tray.Laws as D′
