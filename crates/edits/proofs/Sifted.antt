@@ -2,11 +2,11 @@
 use mathlib.Core.Path.{_≡_, refl, sym, ap, _∙_}
 use mathlib.Core.Bool.{Bool, true, false, cond}
 use mathlib.Core.List.{List, [], _∷_, _++_, map}
-use Prim.Native.Nat.{ℕ, _+_, _-_, _≤_, _<_}
+use Prim.Native.Nat.{ℕ, _+_, _≤_, _<_}
 use native.Mathlib.Omega.{arith}
 use lib.Dec.{ltb}
 use borrow.Author.Tests.{lt-ltb, le-ltb}
-use lib.ListN.{length, getD, set, take, drop, replicate}
+use lib.ListN.{length, getD}
 use lib.Seq.{paste}
 use Rattle.lists.specs.Lists.{filter, pad}
 use Rattle.lists.proofs.Kept.{filter-length}
@@ -14,28 +14,25 @@ use Rattle.lists.proofs.Cases.{not-none}
 use Rattle.lists.proofs.Maps.{map-snoc}
 use Rattle.lists.proofs.Filter.{filter-snoc}
 use Rattle.layout.specs.Content.{Hyperedge}
-use Rattle.layout.specs.Layout.{limit, hyperedgeLimit, recordSize, hyperedgesAt, size, hyperedgeWord, hyperedgeCount, countAt, membersAt, hyperedgeAt, hyperedgeWords}
+use Rattle.layout.specs.Layout.{limit, hyperedgeLimit, recordSize, hyperedgesAt, size, hyperedgeWord, hyperedgeCount, membersAt, hyperedgeAt, hyperedgeWords}
 use Rattle.layout.specs.Inner.{Formed}
 use Rattle.layout.proofs.Read.{members-le}
 use Rattle.edits.specs.Edits.{keeping, hasMembers}
+use Rattle.edits.specs.Records.{recordEnded}
 use Rattle.edits.specs.Removing.{sifted}
 use Rattle.edits.specs.Rewriting.{Rewritten}
 use Rattle.edits.proofs.Relaid.{relaid-pass}
 use Rattle.edits.proofs.Rewritten.{record-stored, rewritten-more, rewritten-skip}
 
--- record j of o, to record k's place of d: d₂ after the members, d₃ after the padding, d₄ after the head
-pub record-sifted : (p : ℕ → Bool) (o d : List ℕ) (j k n c : ℕ) (d₂ d₃ d₄ : List ℕ) → length d ≡ size limit → k < hyperedgeLimit → countAt limit o j ≤ limit → n ≡ countAt limit o j → c ≤ n
-    → c ≡ length (filter p (take n (drop (hyperedgeWord limit j + 3) o))) → d₂ ≡ paste d (hyperedgeWord limit k + 3) (filter p (take n (drop (hyperedgeWord limit j + 3) o))) c
-    → d₃ ≡ paste d₂ (hyperedgeWord limit k + 3 + c) (replicate (limit - c) 0) (limit - c)
-    → d₄ ≡ set (set (set d₃ (hyperedgeWord limit k) (getD o (hyperedgeWord limit j) 0)) (hyperedgeWord limit k + 1) (getD o (hyperedgeWord limit j + 1) 0)) (hyperedgeWord limit k + 2) c
-    → (c ≡ length (keeping p (hyperedgeAt limit o j) .members)) × (d₄ ≡ paste d (hyperedgeWord limit k) (hyperedgeWords limit (keeping p (hyperedgeAt limit o j))) (recordSize limit))
-record-sifted p o d j k n c d₂ d₃ d₄ len hk hc en le ec e₂ e₃ e₄ =
-    let F : List ℕ = filter p (take n (drop (hyperedgeWord limit j + 3) o)) in
-    let m : F ≡ filter p (membersAt limit o j) = ap (λ (i : ℕ). filter p (take i (drop (hyperedgeWord limit j + 3) o))) en in (
-      ec ∙ ap length m,
-      record-stored limit d F (hyperedgeWord limit k) c (getD o (hyperedgeWord limit j) 0) (getD o (hyperedgeWord limit j + 1) 0) d₂ d₃ d₄ (omega arith) ec (omega arith) e₂ e₃ e₄
-          ∙ ap (λ (ms : List ℕ). paste d (hyperedgeWord limit k) (getD o (hyperedgeWord limit j) 0 ∷ getD o (hyperedgeWord limit j + 1) 0 ∷ length ms ∷ pad limit ms) (recordSize limit)) m,
-    )
+-- record j of o, to record k's place of d: F are the members that p keeps, d₂ the words after they are stored, d₃ after the record is ended
+pub record-sifted : (p : ℕ → Bool) (o d : List ℕ) (j k c : ℕ) (F d₂ d₃ : List ℕ) → length d ≡ size limit → k < hyperedgeLimit → c ≤ limit → F ≡ filter p (membersAt limit o j)
+    → c ≡ length F → d₂ ≡ paste d (hyperedgeWord limit k + 3) F c → d₃ ≡ recordEnded limit k (getD o (hyperedgeWord limit j) 0) (getD o (hyperedgeWord limit j + 1) 0) c d₂
+    → (c ≡ length (keeping p (hyperedgeAt limit o j) .members)) × (d₃ ≡ paste d (hyperedgeWord limit k) (hyperedgeWords limit (keeping p (hyperedgeAt limit o j))) (recordSize limit))
+record-sifted p o d j k c F d₂ d₃ len hk le m ec e₂ e₃ = (
+  ec ∙ ap length m,
+  record-stored limit d F (hyperedgeWord limit k) c (getD o (hyperedgeWord limit j) 0) (getD o (hyperedgeWord limit j + 1) 0) d₂ _ d₃ (omega arith) ec le e₂ refl e₃
+      ∙ ap (λ (ms : List ℕ). paste d (hyperedgeWord limit k) (getD o (hyperedgeWord limit j) 0 ∷ getD o (hyperedgeWord limit j + 1) 0 ∷ length ms ∷ pad limit ms) (recordSize limit)) m,
+)
 
 -- ---- record after record
 

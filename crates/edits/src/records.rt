@@ -1,10 +1,11 @@
 // What the edits store in a table's words.
 ghost use mathlib.Core.Path.{_≡_};
 ghost use Prim.Native.Nat.{_+_, _≤_, _<_};
-ghost use lib.ListN.{length, set, replicate};
+ghost use lib.ListN.{length, replicate};
 ghost use Rattle.layout.specs.Layout.{limit, hyperedgeLimit, size, hyperedgeWord};
 ghost use Rattle.lists.specs.Inner.{overAt};
-ghost use Rattle.edits.specs.Records.{memberWords};
+ghost use Rattle.edits.specs.Records.{memberWords, recordEnded};
+use crate::shift::clear_words;
 
 // The number that is never given.
 pub const LAST_NUMBER: u32 = 4294967295;
@@ -45,11 +46,13 @@ pub fn put_members(t: &mut [u32], j: usize, members: &[u32])
     store_zeros(t, a + 1 + n, layout::MEMBER_LIMIT - n);
 }
 
-// Stores the first three words of a record.
-pub fn put_head(t: &mut [u32], a: usize, x: u32, w: u32, c: usize)
-    requires { ⌜ (a + 3 ≤ length (now t)) × (c ≤ limit) ⌝ }
-    ensures { λ _. ⌜ now (t .exit) ≡ set (set (set (now (t .entry)) a x) (a + 1) w) (a + 2) c ⌝ }
+// Ends record k, whose c members are stored: 0 in the words behind them, and number x, weight w and the count before them.
+pub fn end_record(t: &mut [u32], k: usize, x: u32, w: u32, c: usize)
+    requires { ⌜ (length (now t) ≡ size limit) × ((k < hyperedgeLimit) × (c ≤ limit)) ⌝ }
+    ensures { λ _. ⌜ now (t .exit) ≡ recordEnded limit k x w c (now (t .entry)) ⌝ }
 {
+    let a = layout::HYPEREDGES_AT + k * layout::RECORD_SIZE;
+    clear_words(t, a + 3 + c, layout::MEMBER_LIMIT - c);
     t[a] = x;
     t[a + 1] = w;
     t[a + 2] = c as u32;

@@ -9,7 +9,7 @@ ghost use Rattle.layout.specs.Layout.{limit, hyperedgeLimit, recordSize, size, 
 ghost use Rattle.layout.specs.Inner.{Formed};
 ghost use Rattle.edits.specs.Edits.{without};
 ghost use Rattle.edits.specs.Removing.{otherWords, Stripped, stripVertex};
-use edits::records::put_head;
+use edits::records::end_record;
 use edits::shift::clear_words;
 
 // Moves those of the n words from `from` on that are not v to `to` on, and says how many.
@@ -41,8 +41,7 @@ fn strip_record(t: &mut [u32], j: usize, k: usize, v: u32) -> usize
     let x = t[b];
     let w = t[b + 1];
     let c = keep_others(t, b + 3, a + 3, n, v);
-    clear_words(t, a + 3 + c, layout::MEMBER_LIMIT - c);
-    put_head(t, a, x, w, c);
+    end_record(t, k, x, w, c);
     c
 }
 

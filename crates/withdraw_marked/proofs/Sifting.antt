@@ -4,13 +4,17 @@ use mathlib.Core.Bool.{Bool, true, false}
 use mathlib.Core.List.{List}
 use Prim.Native.Nat.{ℕ, _+_, _-_, _≤_, _<_}
 use native.Mathlib.Omega.{arith}
-use lib.ListN.{length, getD, set, replicate}
+use lib.ListN.{length, set, replicate}
 use lib.Seq.{paste, paste-zero}
+use Rattle.lists.specs.Lists.{filter}
 use Rattle.lists.specs.Inner.{overAt}
+use Rattle.lists.proofs.Kept.{filter-length}
 use Rattle.lists.proofs.Tab.{length-tab}
 use Rattle.layout.specs.Content.{Vertex, Hyperedge, liveVertices, liveHyperedges}
-use Rattle.layout.specs.Layout.{limit, recordSize, hyperedgesAt, size, hyperedgeWord, vertexCount, hyperedgeCount, countAt, vertexAt, hyperedgeAt, nextVertexIn, nextHyperedgeIn, readVertices, hyperedgeWords, read, words}
+use Rattle.layout.specs.Layout.{limit, recordSize, hyperedgesAt, size, hyperedgeWord, vertexCount, hyperedgeCount, membersAt, vertexAt, hyperedgeAt, nextVertexIn, nextHyperedgeIn, readVertices, hyperedgeWords, read, words}
 use Rattle.layout.specs.Inner.{Formed}
+use Rattle.layout.proofs.Read.{members-le}
+use Rattle.edits.specs.Records.{recordEnded}
 use Rattle.edits.specs.Removing.{sifted, withVertices}
 use Rattle.edits.proofs.Stored.{over-all}
 use Rattle.edits.proofs.Relaid.{relaid-pass}
@@ -21,14 +25,10 @@ use Rattle.marks.specs.Marks.{isMarked}
 use Rattle.sift_vertices.specs.Unmarked.{unmarked}
 use Rattle.sift_vertices.proofs.Unmarked.{unmarked-none, unmarked-in, unmarked-out}
 use Rattle.withdraw_marked.specs.Sparing.{spared, sparedOf, unmarkedOf}
-use Rattle.withdraw_marked.specs.Sifting.{memberSpared, wordsSpared, hyperedgesLeft, HyperedgesSifted, siftedTable}
+use Rattle.withdraw_marked.specs.Sifting.{memberSpared, hyperedgesLeft, HyperedgesSifted, siftedTable}
 use Rattle.withdraw_marked.proofs.Spared.{vertices-spared, hyperedges-spared}
 
 -- ---- hyperedge records
-
--- n is what `member_count` found
-pub counted : {ws : List ℕ} {j n : ℕ} → Formed limit ws → j < hyperedgeCount ws → n ≡ countAt limit ws j → n ≤ limit
-counted {ws} {j} f h e = omega (arith, f .counts j h)
 
 module _ (vertices hyperedges : List Bool) (ws : List ℕ) where
   pub hyperedges-none : (s : List ℕ) → s ≡ ws → HyperedgesSifted vertices hyperedges ws 0 0 s
@@ -39,23 +39,30 @@ module _ (vertices hyperedges : List Bool) (ws : List ℕ) where
     pub hyperedge-passed : isMarked hyperedges j ≡ true → HyperedgesSifted vertices hyperedges ws (j + 1) k s
     hyperedge-passed m = rw (unmarked-out (hyperedgeAt limit ws) hyperedges j m) (relaid-pass (hyperedgeWords limit) hyperedgesAt (recordSize limit) ws _ j k s st)
 
-    -- it has none: n is its count, c what `keep_spared` says, s₂ the words after it
-    module _ (m : isMarked hyperedges j ≡ false) (n c : ℕ) (s₂ : List ℕ) (en : n ≡ countAt limit ws j) (le : c ≤ n)
-        (ec : c ≡ length (wordsSpared vertices ws (hyperedgeWord limit j + 3) n)) (e₂ : s₂ ≡ paste s (hyperedgeWord limit k + 3) (wordsSpared vertices ws (hyperedgeWord limit j + 3) n) c) where
-      -- all its members have a mark
-      pub hyperedge-emptied : c ≡ 0 → HyperedgesSifted vertices hyperedges ws (j + 1) k s₂
-      hyperedge-emptied z =
-          let F : List ℕ = wordsSpared vertices ws (hyperedgeWord limit j + 3) n in
-          rw (e₂, z, ← paste-zero s (hyperedgeWord limit k + 3) F)
-          (sifted-emptied limit (memberSpared vertices ws) ws _ j k s f st h _ (unmarked-in (hyperedgeAt limit ws) hyperedges j m) c (ec ∙ ap (λ (i : ℕ). length (wordsSpared vertices ws (hyperedgeWord limit j + 3) i)) en) z)
+    -- ms is what `members_formed` gave
+    module _ (ms : List ℕ) (em : ms ≡ membersAt limit ws j) where
+      pub members-room : hyperedgeWord limit k + 3 + length ms ≤ length s
+      members-room = omega (arith, ap length em, members-le limit ws f j h, st .behind, st .same, f .shape .sized, f .shape .hyperedges-le)
 
-      -- some have none: s₃ the words after the padding, s₄ after the head
-      pub hyperedge-kept : (s₃ s₄ : List ℕ) → (c ≡ 0 → ⊥) → s₃ ≡ paste s₂ (hyperedgeWord limit k + 3 + c) (replicate (limit - c) 0) (limit - c)
-          → s₄ ≡ set (set (set s₃ (hyperedgeWord limit k) (getD ws (hyperedgeWord limit j) 0)) (hyperedgeWord limit k + 1) (getD ws (hyperedgeWord limit j + 1) 0)) (hyperedgeWord limit k + 2) c
-          → HyperedgesSifted vertices hyperedges ws (j + 1) (k + 1) s₄
-      hyperedge-kept s₃ s₄ ne e₃ e₄ =
-          let r = record-sifted (memberSpared vertices ws) ws s j k n c s₂ s₃ s₄ (st .same ∙ f .shape .sized) (omega (arith, st .behind, f .shape .hyperedges-le)) (f .counts j h) en le ec e₂ e₃ e₄ in
-          sifted-kept limit (memberSpared vertices ws) ws _ j k s f st h _ (unmarked-in (hyperedgeAt limit ws) hyperedges j m) c (r .0) ne s₄ (r .1)
+      -- c is what `keep_spared` says, s₂ the words after it
+      module _ (c : ℕ) (ec : c ≡ length (filter (memberSpared vertices ws) ms)) where
+        pub left-le : c ≤ limit
+        left-le = omega (arith, filter-length (memberSpared vertices ws) ms, ap length em, members-le limit ws f j h)
+
+        module _ (m : isMarked hyperedges j ≡ false) (s₂ : List ℕ) (e₂ : s₂ ≡ paste s (hyperedgeWord limit k + 3) (filter (memberSpared vertices ws) ms) c) where
+          -- every member has a mark
+          pub hyperedge-emptied : c ≡ 0 → HyperedgesSifted vertices hyperedges ws (j + 1) k s₂
+          hyperedge-emptied z =
+              rw (e₂, z, ← paste-zero s (hyperedgeWord limit k + 3) (filter (memberSpared vertices ws) ms))
+              (sifted-emptied limit (memberSpared vertices ws) ws _ j k s f st h _ (unmarked-in (hyperedgeAt limit ws) hyperedges j m) c (ec ∙ ap (λ (l : List ℕ). length (filter (memberSpared vertices ws) l)) em) z)
+
+          -- some have none: s₃ the words after `end_record`
+          pub hyperedge-kept : (x w : ℕ) (s₃ : List ℕ) → (c ≡ 0 → ⊥) → x ≡ hyperedgeAt limit ws j .number → w ≡ hyperedgeAt limit ws j .weight → s₃ ≡ recordEnded limit k x w c s₂
+              → HyperedgesSifted vertices hyperedges ws (j + 1) (k + 1) s₃
+          hyperedge-kept x w s₃ ne ex ew e₃ =
+              let r = record-sifted (memberSpared vertices ws) ws s j k c _ s₂ s₃ (st .same ∙ f .shape .sized) (omega (arith, st .behind, f .shape .hyperedges-le)) left-le
+              (ap (filter (memberSpared vertices ws)) em) ec e₂ (e₃ ∙ ap₂ (λ (x w : ℕ). recordEnded limit k x w c s₂) ex ew) in
+              sifted-kept limit (memberSpared vertices ws) ws _ j k s f st h _ (unmarked-in (hyperedgeAt limit ws) hyperedges j m) c (r .0) ne s₃ (r .1)
 
   -- ---- at the end: s₂ the words after the rest is cleared, s₃ after the count is stored
   pub hyperedges-done : (m j k : ℕ) (s s₂ s₃ : List ℕ) → Formed limit ws → m ≡ hyperedgeCount ws → HyperedgesSifted vertices hyperedges ws j k s → j ≤ m → m ≤ j

@@ -2,8 +2,6 @@
 use mathlib.Core.Bool.{Bool}
 use mathlib.Core.List.{List}
 use Prim.Native.Nat.{ℕ}
-use lib.ListN.{take, drop}
-use Rattle.lists.specs.Lists.{filter}
 use Rattle.layout.specs.Content.{Hyperedge, Table, liveVertices}
 use Rattle.layout.specs.Layout.{limit, hyperedgeCount, hyperedgeAt, nextVertexIn, nextHyperedgeIn, readVertices, read}
 use Rattle.edits.specs.Rewriting.{Rewritten}
@@ -11,12 +9,9 @@ use Rattle.edits.specs.Removing.{sifted}
 use Rattle.sift_vertices.specs.Unmarked.{unmarked}
 use Rattle.withdraw_marked.specs.Sparing.{spared}
 
--- by the marks of the vertex records of ws: a member that has none, and those of the n words from `from` on that are such a member
+-- the member has no mark, by the marks of the vertex records of ws
 abbrev pub memberSpared : List Bool → List ℕ → ℕ → Bool
 memberSpared marks ws x = spared marks (liveVertices (read limit ws)) x
-
-abbrev pub wordsSpared : List Bool → List ℕ → ℕ → ℕ → List ℕ
-wordsSpared marks ws from n = filter (memberSpared marks ws) (take n (drop from ws))
 
 -- what is left of the first j hyperedges of ws
 abbrev pub hyperedgesLeft : List Bool → List Bool → List ℕ → ℕ → List Hyperedge

@@ -3,11 +3,12 @@ ghost use mathlib.Core.Path.{_≡_};
 ghost use Prim.Native.Nat.{_+_, _<_, _≤_};
 ghost use lib.ListN.{length};
 ghost use lib.Seq.{paste};
+ghost use Rattle.lists.specs.Lists.{filter};
 ghost use Rattle.layout.specs.Layout.{limit, hyperedgeCount, read, words};
 ghost use Rattle.layout.specs.Inner.{Formed};
 ghost use Rattle.withdraw_marked.specs.Sparing.{unmarkedOf};
-ghost use Rattle.withdraw_marked.specs.Sifting.{memberSpared, wordsSpared, HyperedgesSifted, siftedTable};
-use edits::records::put_head;
+ghost use Rattle.withdraw_marked.specs.Sifting.{memberSpared, HyperedgesSifted, siftedTable};
+use edits::records::end_record;
 use edits::records::store;
 use edits::shift::clear_words;
 use layout::Found;
@@ -26,23 +27,16 @@ fn is_spared(old: &[u32], vertices: &[bool; 256], x: u32) -> bool
     }
 }
 
-// Stores those of the n words of old from `from` on that have no mark from `to` on, and says how many.
-fn keep_spared(
-    t: &mut [u32],
-    old: &[u32],
-    vertices: &[bool; 256],
-    from: usize,
-    to: usize,
-    n: usize,
-) -> usize
+// Stores those of the list that have no mark from `to` on, and says how many.
+fn keep_spared(t: &mut [u32], old: &[u32], vertices: &[bool; 256], list: &[u32], to: usize) -> usize
     requires { ⌜ Formed limit (now old) ⌝ }
-    requires { ⌜ (from + n ≤ length (now old)) × (to + n ≤ length (now t)) ⌝ }
-    ensures { λ r. ⌜ (r ≤ n) × ((r ≡ length (wordsSpared (now (vertices .entry)) (now (old .entry)) from n)) × (now (t .exit) ≡ paste (now (t .entry)) to (wordsSpared (now (vertices .entry)) (now (old .entry)) from n) r)) ⌝ }
+    requires { ⌜ to + length (now list) ≤ length (now t) ⌝ }
+    ensures { λ r. ⌜ (r ≡ length (filter (memberSpared (now (vertices .entry)) (now (old .entry))) (now (list .entry)))) × (now (t .exit) ≡ paste (now (t .entry)) to (filter (memberSpared (now (vertices .entry)) (now (old .entry))) (now (list .entry))) r) ⌝ }
 {
     let mut c = 0;
     let mut i = 0;
-    while i < n {
-        let x = old[from + i];
+    while i < list.len() {
+        let x = list[i];
         if is_spared(old, vertices, x) {
             t[to + c] = x;
             c += 1;
@@ -69,15 +63,15 @@ fn sift_record(
     if hyperedges[j] {
         return k;
     }
-    let n = layout::member_count(old, j);
-    let b = layout::HYPEREDGES_AT + j * layout::RECORD_SIZE;
+    let list = layout::members_formed(old, j);
     let a = layout::HYPEREDGES_AT + k * layout::RECORD_SIZE;
-    let c = keep_spared(t, old, vertices, b + 3, a + 3, n);
+    let c = keep_spared(t, old, vertices, list, a + 3);
     if c == 0 {
         return k;
     }
-    clear_words(t, a + 3 + c, layout::MEMBER_LIMIT - c);
-    put_head(t, a, old[b], old[b + 1], c);
+    let x = layout::hyperedge_number(old, j);
+    let w = layout::hyperedge_weight(old, j);
+    end_record(t, k, x, w, c);
     k + 1
 }
 

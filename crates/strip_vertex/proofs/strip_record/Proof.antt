@@ -1,7 +1,12 @@
 -- `strip_vertex::strip_record` meets its contract. Assumes nothing.
+use mathlib.Core.Path.{ap}
+use Prim.Native.Nat.{ℕ, _+_}
+use lib.ListN.{take, drop}
 use denote.Ref.{now}
 use Rattle.lists.specs.Lists.{otherThan, itself}
+use Rattle.layout.specs.Layout.{limit, hyperedgeWord}
 use Rattle.edits.specs.Edits.{without}
+use Rattle.edits.specs.Removing.{otherWords}
 use Rattle.edits.proofs.Sifted.{record-sifted}
 use borrow.Author.Needs.{needs}
 use Rattle.strip_vertex.proofs.strip_record.Statement.{statement}
@@ -46,20 +51,8 @@ add-keep-others-2 c = search needs
 keep-others-requires : tie.Need-keep-others-requires
 keep-others-requires c κs = search needs
 
-add-clear-words : tie.Need-add-clear-words
-add-clear-words c = search needs
-
-add-clear-words-2 : tie.Need-add-clear-words-2
-add-clear-words-2 c = search needs
-
-sub-clear-words : tie.Need-sub-clear-words
-sub-clear-words c = search needs
-
-clear-words-requires : tie.Need-clear-words-requires
-clear-words-requires c κs = search needs
-
-put-head-requires : tie.Need-put-head-requires
-put-head-requires c κs = search needs
+end-record-requires : tie.Need-end-record-requires
+end-record-requires c κs = search needs
 
 same-length : tie.Need-same-length
 same-length c = search needs
@@ -67,12 +60,11 @@ same-length c = search needs
 returns : tie.Need-returns
 unfolding without
 returns c =
-    let h = c .before .before in let z = h .before .before .before .before in let o = z .before .before .before .before in
-    let n = o .before .before .before .before in let s = n .before .before .before in
-    record-sifted (otherThan itself (s .args .v)) (now (s .args .t)) (now (s .args .t)) (s .args .j) (s .args .k) (n .member-count .result) (o .keep-others .result)
-    (o .keep-others .last .0) (z .clear-words .last .0) (h .put-head .last .0)
-    (s .pre .0) (search needs) (s .pre .1 .1 .1) (n .member-count .ensures)
-    (o .keep-others .ensures .0) (o .keep-others .ensures .1 .0) (o .keep-others .ensures .1 .1) (z .clear-words .ensures) (h .put-head .ensures)
+    let h = c .before .before in let o = h .before .before .before .before in let n = o .before .before .before .before in let s = n .before .before .before in
+    let v = s .args .v in let d = now (s .args .t) in
+    record-sifted (otherThan itself v) d d (s .args .j) (s .args .k) (o .keep-others .result) _ (o .keep-others .last .0) (h .end-record .last .0)
+    (s .pre .0) (search needs) (search needs) (ap (λ (i : ℕ). otherWords v (take i (drop (hyperedgeWord limit (s .args .j) + 3) d))) (n .member-count .ensures))
+    (o .keep-others .ensures .1 .0) (o .keep-others .ensures .1 .1) (h .end-record .ensures)
 
 pub strip-record-spec : {M : Type 1} → statement M
 strip-record-spec =
@@ -91,10 +83,6 @@ strip-record-spec =
     add-keep-others
     add-keep-others-2
     keep-others-requires
-    add-clear-words
-    add-clear-words-2
-    sub-clear-words
-    clear-words-requires
-    put-head-requires
+    end-record-requires
     same-length
     returns)

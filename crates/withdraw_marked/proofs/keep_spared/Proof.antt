@@ -1,29 +1,24 @@
 -- `withdraw_marked::keep_spared` meets its contract: `Kept` at each word. Assumes nothing.
-use mathlib.Core.Path.{sym, _∙_}
+use mathlib.Core.Path.{refl, sym, _∙_}
 use mathlib.Core.Logic.{⊎-elim}
 use Prim.Native.Nat.{_≤_, _<_, _-_}
-use lib.ListN.{length, take, drop, length-take, length-drop}
-use lib.Seq.{length-take-le}
+use lib.ListN.{length}
 use native.Mathlib.Omega.{arith}
 use denote.Ref.{now}
-use borrow.Author.Needs.{needs}
-use Rattle.lists.proofs.Parts.{part-at}
 use Rattle.edits.proofs.KeptWords.{Kept, kept-none, kept-yes, kept-no, kept-end}
 use Rattle.withdraw_marked.specs.Sifting.{memberSpared}
+use borrow.Author.Needs.{needs}
 use Rattle.withdraw_marked.proofs.keep_spared.Statement.{statement}
 use Rattle.withdraw_marked.proofs.keep_spared.Tie as tie
 
 abbrev Inv-loop : tie.InvT-loop
-Inv-loop t₀ old vertices from to n c₀ i₀ t c i = (i ≤ n) × Kept (memberSpared vertices old) (take n (drop from old)) t₀ to i c t
+Inv-loop t₀ old vertices list to c₀ i₀ t c i = (i ≤ length list) × Kept (memberSpared vertices old) list t₀ to i c t
 
 abbrev μ-loop : tie.MeasureT-loop
-μ-loop t₀ old vertices from to n c₀ i₀ t c i = n - i
+μ-loop t₀ old vertices list to c₀ i₀ t c i = length list - i
 
 loop-holds : tie.Need-loop-holds Inv-loop μ-loop
-loop-holds c = (omega arith, kept-none _ _ _ _)
-
-add-x : tie.Need-add-x Inv-loop μ-loop
-add-x c = search needs
+loop-holds c = (search needs, kept-none _ _ _ _)
 
 mul-x : tie.Need-mul-x Inv-loop μ-loop
 mul-x c = search needs
@@ -56,16 +51,14 @@ loop-less c = search needs
 
 loop-again : tie.Need-loop-again Inv-loop μ-loop
 loop-again c =
-    let r = c .before in let l = r .before .before .before in let a = l .before .before .before .args in
+    let r = c .before in let l = r .before .before .before in let a = l .before .before .before .before .args in
     let k = l .loop .inv .1 in
     let p = memberSpared (now (a .vertices)) (now (a .old)) in
-    let ms = take (a .n) (drop (a .from) (now (a .old))) in
-    let h : l .loop .i < length ms = rw (length-take-le (a .n) (drop (a .from) (now (a .old))) (rw length-drop (omega arith))) (omega arith) in
-    let e = sym (part-at (now (a .old)) (a .from) (a .n) (l .loop .i) (omega arith)) in (
-      omega arith,
+    let h : l .loop .i < length (now (a .list)) = search needs in (
+      search needs,
       ⊎-elim
-          (λ w. kept-yes p ms (now (a .t)) (a .to) (l .loop .i) (l .loop .c) (l .loop .t) k _ _ _ h (omega (arith, k .behind)) e (sym (r .is-spared .ensures) ∙ w .0 .taken) (w .2) (w .1))
-          (λ w. kept-no p ms (now (a .t)) (a .to) (l .loop .i) (l .loop .c) (l .loop .t) k _ _ _ h e (sym (r .is-spared .ensures) ∙ w .0 .left) (w .2) (w .1))
+          (λ w. kept-yes p (now (a .list)) (now (a .t)) (a .to) (l .loop .i) (l .loop .c) (l .loop .t) k _ _ _ h (omega (arith, k .behind)) refl (sym (r .is-spared .ensures) ∙ w .0 .taken) (w .2) (w .1))
+          (λ w. kept-no p (now (a .list)) (now (a .t)) (a .to) (l .loop .i) (l .loop .c) (l .loop .t) k _ _ _ h refl (sym (r .is-spared .ensures) ∙ w .0 .left) (w .2) (w .1))
           (c .if1 .came),
     )
 
@@ -73,9 +66,7 @@ same-length : tie.Need-same-length Inv-loop μ-loop
 same-length c = c .before .loop .inv .1 .copied .same
 
 returns : tie.Need-returns Inv-loop μ-loop
-returns c =
-    let l = c .before in let a = l .before .before .before .args in let k = l .loop .inv .1 in
-    (omega (arith, k .behind), kept-end _ _ _ _ (l .loop .i) (l .loop .c) _ k (rw length-take (omega arith)))
+returns c = let l = c .before in kept-end _ _ _ _ (l .loop .i) (l .loop .c) _ (l .loop .inv .1) (search needs)
 
 pub keep-spared-spec : {M : Type 1} → statement M
 keep-spared-spec =
@@ -84,7 +75,6 @@ keep-spared-spec =
     Inv-loop
     μ-loop
     loop-holds
-    add-x
     mul-x
     shared-slice-read-x
     is-spared-requires

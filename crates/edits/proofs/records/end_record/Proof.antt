@@ -1,9 +1,27 @@
--- `edits::records::put_head` meets its contract. Assumes nothing.
+-- `edits::records::end_record` meets its contract. Assumes nothing.
 use lib.ListN.{length-set}
 use native.Mathlib.Omega.{arith}
 use borrow.Author.Needs.{needs}
-use Rattle.edits.proofs.records.put_head.Statement.{statement}
-use Rattle.edits.proofs.records.put_head.Tie as tie
+use Rattle.edits.proofs.records.end_record.Statement.{statement}
+use Rattle.edits.proofs.records.end_record.Tie as tie
+
+mul-a : tie.Need-mul-a
+mul-a c = search needs
+
+add-a : tie.Need-add-a
+add-a c = search needs
+
+add-clear-words : tie.Need-add-clear-words
+add-clear-words c = search needs
+
+add-clear-words-2 : tie.Need-add-clear-words-2
+add-clear-words-2 c = search needs
+
+sub-clear-words : tie.Need-sub-clear-words
+sub-clear-words c = search needs
+
+clear-words-requires : tie.Need-clear-words-requires
+clear-words-requires c κs = search needs
 
 mul-t : tie.Need-mul-t
 mul-t c = search needs
@@ -36,12 +54,18 @@ same-length : tie.Need-same-length
 same-length c = search needs
 
 returns : tie.Need-returns
-returns c = search needs
+returns c = cc
 
-pub put-head-spec : {M : Type 1} → statement M
-put-head-spec =
+pub end-record-spec : {M : Type 1} → statement M
+end-record-spec =
     tie.close
     (tie.spec
+    mul-a
+    add-a
+    add-clear-words
+    add-clear-words-2
+    sub-clear-words
+    clear-words-requires
     mul-t
     slice-write-t
     add-t
