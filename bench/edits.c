@@ -4,7 +4,10 @@
 #include "timing.h"
 #include "vaultsorrel.h"
 
+enum { TRAY = 40 };
+
 static uint32_t full[WORDS], room[WORDS], table[WORDS], members[MEMBERS];
+static vs_withdrawal tray[TRAY];
 
 /* The dense table without its last vertex and its last hyperedge: room for one more of each. */
 static void fill_room(uint32_t *t) {
@@ -38,6 +41,8 @@ int main(void) {
     fill_room(room);
     for (int i = 0; i < MEMBERS; i++)
         members[i] = (uint32_t)i;
+    for (int i = 0; i < TRAY; i++)
+        tray[i] = (vs_withdrawal){VS_VERTEX_KIND, 6 * (uint32_t)i};
     puts("Edits, dense numbers. `full`: 256 vertices, 192 hyperedges of 32 members; `room`: one less of each.");
     table_head();
     TIME("the copy alone", "full", 6000, memcpy(table, full, sizeof table));
@@ -47,5 +52,6 @@ int main(void) {
     EDIT("remove_hyperedge", full, 6000, vs_remove_hyperedge(table, WORDS, (vs_hyperedge){0}));
     EDIT("remove_vertex", full, 30000, vs_remove_vertex(table, WORDS, (vs_vertex){0}));
     EDIT("merge_vertices", full, 10000, vs_merge_vertices(table, WORDS, (vs_vertex){1}, (vs_vertex){0}));
+    EDIT("withdraw_tray, 40 vertices", full, 250000, vs_withdraw_tray(table, WORDS, tray, TRAY));
     return 0;
 }

@@ -12,7 +12,8 @@ enum { STACK = 1 << 20, PAINT = 0xA5, ROOM = 140000 };
 static uint8_t stack[STACK], *called_at;
 static uint32_t tables[4][WORDS], table[WORDS], list[MEMBERS], out[ROOM];
 static uint8_t text[ROOM];
-static arguments lent = {.table = table, .words = WORDS, .list = list, .size = 4096, .seed = 1, .text = text, .out = out, .room = ROOM};
+static vs_withdrawal tray[2 * MEMBERS];
+static arguments lent = {.table = table, .words = WORDS, .list = list, .tray = tray, .size = 4096, .seed = 1, .text = text, .out = out, .room = ROOM};
 static ucontext_t back, apart;
 static int running;
 
@@ -48,15 +49,19 @@ static size_t needed(const uint32_t *from) {
     return (size_t)(called_at - lowest);
 }
 
-/* Arguments that are good for the table: its first and its last vertex, a list of its vertices or hyperedges, its text. */
+/* Arguments that are good for the table: its first and its last vertex, a list of its vertices or hyperedges, a tray of both, its text. */
 static void lend(const uint32_t *t, int takes) {
     int hyperedges = takes & HYPEREDGES_LIST, at = hyperedges ? HYPEREDGES_AT : VERTICES_AT, record = hyperedges ? RECORD : 2;
     lent.x = t[takes & HYPEREDGE ? HYPEREDGES_AT : VERTICES_AT];
     lent.y = t[VERTICES_AT + 2 * (VERTICES - 1)];
     lent.count = MEMBERS;
     lent.bytes = vs_write_frames(t, WORDS, text, sizeof text).detail;
-    for (int i = 0; i < MEMBERS; i++)
+    lent.records = 2 * MEMBERS;
+    for (int i = 0; i < MEMBERS; i++) {
         list[i] = t[at + record * i];
+        tray[2 * i] = (vs_withdrawal){VS_VERTEX_KIND, t[VERTICES_AT + 2 * i]};
+        tray[2 * i + 1] = (vs_withdrawal){VS_HYPEREDGE_KIND, t[HYPEREDGES_AT + RECORD * i]};
+    }
 }
 
 int main(void) {

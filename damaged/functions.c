@@ -6,6 +6,7 @@
 #define Y ((vs_vertex){a->y})
 #define E ((vs_hyperedge){a->x})
 #define L a->list, a->count
+#define R a->tray, a->records
 #define O a->out, a->room
 
 #define CALL_OF(name, takes, words) \

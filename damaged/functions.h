@@ -11,6 +11,8 @@ typedef struct {
     uint32_t x, y;
     const uint32_t *list;
     size_t count;
+    const vs_withdrawal *tray;
+    size_t records;
     size_t size;
     uint64_t seed;
     const uint8_t *text;
@@ -20,7 +22,8 @@ typedef struct {
 } arguments;
 
 /* What a function takes. */
-enum { VERTEX = 1, HYPEREDGE = 2, WEIGHT = 4, SECOND = 8, MEMBERS_LIST = 16, HYPEREDGES_LIST = 32, SIZE = 64, WALK = 128, OUT = 256, TEXT = 512, READ = 1024 };
+enum { VERTEX = 1, HYPEREDGE = 2, WEIGHT = 4, SECOND = 8, MEMBERS_LIST = 16, HYPEREDGES_LIST = 32, SIZE = 64, WALK = 128, OUT = 256, TEXT = 512, READ = 1024,
+       TRAY = 2048 };
 
 #define FUNCTIONS(F)                                                                                        \
     F(add_vertex, WEIGHT, (T, a->x))                                                                        \
@@ -29,6 +32,7 @@ enum { VERTEX = 1, HYPEREDGE = 2, WEIGHT = 4, SECOND = 8, MEMBERS_LIST = 16, HYP
     F(remove_vertex, VERTEX, (T, X))                                                                        \
     F(merge_vertices, VERTEX | SECOND, (T, X, Y))                                                           \
     F(remove_hyperedge, HYPEREDGE, (T, E))                                                                  \
+    F(withdraw_tray, TRAY, (T, R))                                                                          \
     F(clear, 0, (T))                                                                                        \
     F(is_empty, 0, (T))                                                                                     \
     F(get_adjacent_vertices_from, VERTEX | OUT, (T, X, O))                                                  \

@@ -236,20 +236,26 @@ static void drop_vertex(content *c, int gone) {
     }
 }
 
+/* The vertex, its places in every list, and the lists that are then empty. */
+static void take_vertex_out(content *c, int gone) {
+    for (int j = c->m - 1; j >= 0; j--) {
+        int kept = 0;
+        EACH(i, c->count[j])
+            if (c->member[j][i] != gone)
+                c->member[j][kept++] = c->member[j][i] - (c->member[j][i] > gone);
+        c->count[j] = kept;
+        if (kept == 0)
+            drop_hyperedge(c, j);
+    }
+    drop_vertex(c, gone);
+}
+
 static void judge_remove_vertex(const content *c, const arguments *a, verdict *v) {
     int gone = live_vertex(c, a->x, v);
     if (gone < 0)
         return;
     content after = *c;
-    for (int j = c->m - 1; j >= 0; j--) {
-        after.count[j] = 0;
-        EACH(i, c->count[j])
-            if (c->member[j][i] != gone)
-                after.member[j][after.count[j]++] = c->member[j][i] - (c->member[j][i] > gone);
-        if (after.count[j] == 0)
-            drop_hyperedge(&after, j);
-    }
-    drop_vertex(&after, gone);
+    take_vertex_out(&after, gone);
     write_table(&after, v);
 }
 
@@ -283,6 +289,33 @@ static void judge_remove_hyperedge(const content *c, const arguments *a, verdict
         return;
     content after = *c;
     drop_hyperedge(&after, gone);
+    write_table(&after, v);
+}
+
+/* The place of what a record names, or -1. */
+static int place_of_record(const content *c, vs_withdrawal r) {
+    if (r.kind == 0)
+        return place_of_vertex(c, r.number);
+    if (r.kind == 1)
+        return place_of_hyperedge(c, r.number);
+    return -1;
+}
+
+/* Every record is judged first; then each is removed by itself, but for those that are gone by then. */
+static void judge_withdraw_tray(const content *c, const arguments *a, verdict *v) {
+    for (size_t k = 0; k < a->records; k++)
+        if (place_of_record(c, a->tray[k]) < 0)
+            SAY(15, k);
+    content after = *c;
+    for (size_t k = 0; k < a->records; k++) {
+        int gone = place_of_record(&after, a->tray[k]);
+        if (gone < 0)
+            continue;
+        if (a->tray[k].kind == 0)
+            take_vertex_out(&after, gone);
+        else
+            drop_hyperedge(&after, gone);
+    }
     write_table(&after, v);
 }
 

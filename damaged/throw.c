@@ -17,7 +17,7 @@ static const char *section;
 
 /* ---- Lent memory */
 
-static uint8_t *table_end, *list_end, *text_end, *out_end;
+static uint8_t *table_end, *list_end, *tray_end, *text_end, *out_end;
 static uint8_t painted[4 * MOST_WORDS + MARGIN];
 
 /* The end of so many bytes behind which no memory is. */
@@ -57,6 +57,14 @@ static void lend_list(const uint32_t *list, size_t count) {
         memcpy(list_end - 4 * count, list, 4 * count);
 }
 
+static void lend_tray(const vs_withdrawal *tray, size_t records) {
+    size_t bytes = records * sizeof *tray;
+    lent.tray = (vs_withdrawal *)(tray_end - bytes);
+    lent.records = records;
+    if (records > 0)
+        memcpy(tray_end - bytes, tray, bytes);
+}
+
 static void lend_text(const uint8_t *text, size_t bytes) {
     lent.text = text_end - bytes;
     lent.bytes = bytes;
@@ -81,9 +89,9 @@ static bool same_out(size_t written, size_t room) {
 
 static void show(int f, vs_reply r, uint32_t number, uint64_t detail, bool table, bool out) {
     if (shown++ < MOST_SHOWN)
-        printf("%s: %s x=%u y=%u count=%zu size=%zu room=%zu: %u, %llu; expected %u, %llu; table %s, slice %s\n", section,
-               functions[f].name, lent.x, lent.y, lent.count, lent.size, lent.room, r.number, (unsigned long long)r.detail, number,
-               (unsigned long long)detail, table ? "right" : "wrong", out ? "right" : "wrong");
+        printf("%s: %s x=%u y=%u count=%zu records=%zu size=%zu room=%zu: %u, %llu; expected %u, %llu; table %s, slice %s\n", section,
+               functions[f].name, lent.x, lent.y, lent.count, lent.records, lent.size, lent.room, r.number, (unsigned long long)r.detail,
+               number, (unsigned long long)detail, table ? "right" : "wrong", out ? "right" : "wrong");
 }
 
 /* The call with an answer slice of that length, after the verdict was given. */
@@ -329,6 +337,152 @@ static void throw_merges(void) {
         }
 }
 
+/* ---- Trays */
+
+/* What is live, as records: the vertices, then the hyperedges. */
+static vs_withdrawal live[MOST_VERTICES + MOST_HYPEREDGES];
+static size_t lives;
+
+/* The tray that is made. */
+static vs_withdrawal tray[MOST_LIST];
+
+static void find_live(void) {
+    lives = 0;
+    for (int i = 0; i < held.n; i++)
+        live[lives++] = (vs_withdrawal){VS_VERTEX_KIND, held.vertex[i]};
+    for (int j = 0; j < held.m; j++)
+        live[lives++] = (vs_withdrawal){VS_HYPEREDGE_KIND, held.hyperedge[j]};
+}
+
+static void throw_tray(const vs_withdrawal *records, size_t count) {
+    lend_tray(records, count);
+    throw_at(F_withdraw_tray, 0);
+}
+
+/* Records of both kinds with the numbers to ask for, and of other kinds with numbers that are live. */
+static size_t records_asked(vs_withdrawal *out) {
+    size_t some = 0;
+    for (int k = 0; k < vertices_asked; k++)
+        out[some++] = (vs_withdrawal){VS_VERTEX_KIND, vertices[k]};
+    for (int k = 0; k < hyperedges_asked; k++)
+        out[some++] = (vs_withdrawal){VS_HYPEREDGE_KIND, hyperedges[k]};
+    out[some++] = (vs_withdrawal){2, vertices[0]};
+    out[some++] = (vs_withdrawal){UINT32_MAX, hyperedges[0]};
+    return some;
+}
+
+/* Each of them alone, and every two. */
+static void throw_asked(void) {
+    vs_withdrawal asked[34];
+    size_t some = records_asked(asked);
+    for (size_t k = 0; k < some; k++) {
+        throw_tray(asked + k, 1);
+        for (size_t l = 0; l < some; l++)
+            throw_tray((vs_withdrawal[]){asked[k], asked[l]}, 2);
+    }
+}
+
+/* The tray in hand with a record at a place that may be of another kind or not live, and with another such record at its end. */
+static void throw_faulty(size_t count, size_t at) {
+    const vs_withdrawal faulty[] = {{2, live[0].number},
+                                    {256, live[lives - 1].number},
+                                    {UINT32_MAX, live[0].number},
+                                    {VS_VERTEX_KIND, held.next_vertex},
+                                    {VS_VERTEX_KIND, UINT32_MAX},
+                                    {VS_VERTEX_KIND, live[lives - 1].number},
+                                    {VS_HYPEREDGE_KIND, held.next_hyperedge},
+                                    {VS_HYPEREDGE_KIND, UINT32_MAX},
+                                    {VS_HYPEREDGE_KIND, held.vertex[held.n - 1]}};
+    vs_withdrawal was = tray[at], last = tray[count - 1];
+    for (size_t k = 0; k < sizeof faulty / sizeof *faulty; k++) {
+        tray[at] = faulty[k];
+        throw_tray(tray, count);
+        tray[count - 1] = at + 1 < count ? faulty[k / 2] : faulty[k];
+        throw_tray(tray, count);
+        tray[count - 1] = last;
+        tray[at] = was;
+    }
+}
+
+/* Trays of what is live, of many lengths, with repeats where they are longer than the table; each with faulty records. */
+static void throw_long_trays(void) {
+    static const size_t lengths[] = {0, 1, 2, 3, 16, 40, 191, 256, 448, 449, 1000, MOST_LIST};
+    for (size_t k = 0; k < sizeof lengths / sizeof *lengths; k++) {
+        for (size_t i = 0; i < lengths[k]; i++)
+            tray[i] = live[(i * 7 + k) % lives];
+        throw_tray(tray, lengths[k]);
+        size_t step = lengths[k] < 100 ? 1 : lengths[k] / 5;
+        for (size_t at = 0; at < lengths[k]; at += step)
+            throw_faulty(lengths[k], at);
+        if (lengths[k] > 0)
+            throw_faulty(lengths[k], lengths[k] - 1);
+    }
+}
+
+/* Each live record alone and twice; of a full table each fifth one. */
+static void throw_alone(void) {
+    for (size_t k = 0; k < lives; k += lives > 128 ? 5 : 1) {
+        throw_tray(live + k, 1);
+        throw_tray((vs_withdrawal[]){live[k], live[k]}, 2);
+    }
+}
+
+/* The members of each hyperedge, which empty it: without its own record, with it behind them, and with it before them too. */
+static void throw_emptied(void) {
+    for (int j = 0; j < held.m; j++) {
+        size_t count = 1;
+        tray[0] = (vs_withdrawal){VS_HYPEREDGE_KIND, held.hyperedge[j]};
+        for (int i = 0; i < held.count[j]; i++)
+            tray[count++] = (vs_withdrawal){VS_VERTEX_KIND, held.vertex[held.member[j][i]]};
+        tray[count] = tray[0];
+        throw_tray(tray + 1, count - 1);
+        throw_tray(tray + 1, count);
+        throw_tray(tray, count + 1);
+    }
+}
+
+/* All vertices, all hyperedges, all of both; the same from the last to the first; and each but a few that are drawn. */
+static void throw_nearly_all(void) {
+    throw_tray(live, (size_t)held.n);
+    throw_tray(live + held.n, (size_t)held.m);
+    throw_tray(live, lives);
+    for (size_t k = 0; k < lives; k++)
+        tray[k] = live[lives - 1 - k];
+    throw_tray(tray, lives);
+    for (int round = 0; round < 40; round++) {
+        size_t count = 0;
+        for (size_t k = 0; k < lives; k++)
+            if (draw() % 16 != 0)
+                tray[count++] = live[k];
+        throw_tray(tray, count);
+    }
+}
+
+/* Up to 60 live records that are drawn, some more than once. */
+static void throw_drawn(void) {
+    for (int round = 0; round < 200; round++) {
+        size_t count = draw() % 61;
+        for (size_t i = 0; i < count; i++)
+            tray[i] = live[draw() % lives];
+        throw_tray(tray, count);
+    }
+}
+
+static void throw_trays(void) {
+    find_live();
+    throw_tray(live, 0);
+    throw_asked();
+    if (lives == 0)
+        return;
+    throw_long_trays();
+    throw_alone();
+    throw_emptied();
+    throw_nearly_all();
+    throw_drawn();
+}
+
+/* ---- Every function */
+
 /* Every function with every kind of argument on the table in hand. */
 static void throw_arguments(void) {
     choose_numbers();
@@ -342,6 +496,10 @@ static void throw_arguments(void) {
                 throw_neighbours(f);
                 throw_own_lists(f);
             }
+            continue;
+        }
+        if (takes & TRAY) {
+            throw_trays();
             continue;
         }
         for (int k = 0; k < some; k++)
@@ -364,10 +522,12 @@ static size_t good_bytes;
  * refusal would come if the table's did not. */
 static void throw_every(bool bad) {
     static const uint32_t good_list[] = {0, 1}, bad_list[] = {UINT32_MAX, UINT32_MAX};
+    static const vs_withdrawal good_tray[] = {{VS_VERTEX_KIND, 0}, {VS_HYPEREDGE_KIND, 0}}, bad_tray[] = {{2, UINT32_MAX}};
     lent.x = bad ? UINT32_MAX : 0;
     lent.y = bad ? UINT32_MAX : 1;
     lent.size = 3;
     lend_list(bad ? bad_list : good_list, bad ? 0 : 2);
+    lend_tray(bad ? bad_tray : good_tray, bad ? 1 : 2);
     lend_text(good_text, bad ? 0 : good_bytes);
     for (int f = 0; f < COUNT_OF_FUNCTIONS; f++)
         throw_at(f, bad ? 0 : 16);
@@ -402,6 +562,7 @@ static void throw_still_formed(bool all, unsigned turn) {
     lend_list(held.hyperedge, 2);
     lent.x = held.n > 0 ? held.vertex[turn % (unsigned)held.n] : 0;
     lent.y = held.n > 0 ? held.vertex[turn / 2 % (unsigned)held.n] : 0;
+    lend_tray((vs_withdrawal[]){{VS_VERTEX_KIND, lent.x}, {VS_VERTEX_KIND, lent.y}, {VS_HYPEREDGE_KIND, held.hyperedge[0]}}, 3);
     throw_at((int)(turn % COUNT_OF_FUNCTIONS), turn / COUNT_OF_FUNCTIONS % 2 ? MOST_WORDS : 16);
 }
 
@@ -529,7 +690,7 @@ static void throw_texts(const uint32_t *table) {
 /* ---- The report */
 
 /* Whether some function has an answer of the number. */
-static bool is_answer(int number) { return number <= 14 || number == 20; }
+static bool is_answer(int number) { return number <= 15 || number == 20; }
 
 static int report(void) {
     uint64_t calls = 0, wrong = 0;
@@ -562,6 +723,7 @@ int main(void) {
     memset(painted, PAINT, sizeof painted);
     table_end = memory(4 * 2 * TABLE);
     list_end = memory(4 * MOST_LIST);
+    tray_end = memory(sizeof(vs_withdrawal) * MOST_LIST);
     text_end = memory(MOST_TEXT);
     out_end = memory(4 * MOST_WORDS);
     fill_all();

@@ -20,6 +20,7 @@
  *   12  the frame text is bad                           detail: the first line that no written text could have there
  *   13  a vertex is merged into itself                  detail: the vertex
  *   14  vertices to merge stand side by side            detail: the lowest hyperedge in which they do
+ *   15  a record is of another kind or not live         detail: the position of the first such record, from 0
  *   20  the member list has two equal neighbours        detail: the first member that equals the one after it
  *
  * Where a call is done, the detail is the number given (adds), 1 or 0 (yes or no), the count (degrees), the words or bytes
@@ -53,6 +54,14 @@ typedef struct {
     uint32_t number;
 } vs_hyperedge;
 
+/* A record of a tray: kind 0 names a vertex, kind 1 a hyperedge. Any other kind is refused. */
+typedef struct {
+    uint32_t kind;
+    uint32_t number;
+} vs_withdrawal;
+
+enum { VS_VERTEX_KIND = 0, VS_HYPEREDGE_KIND = 1 };
+
 /* ---- Edits */
 
 /* A new vertex. Refusals 1, 7, 8. */
@@ -74,6 +83,11 @@ vs_reply vs_merge_vertices(uint32_t *table, size_t table_words, vs_vertex v, vs_
 
 /* Refusals 1, 4. */
 vs_reply vs_remove_hyperedge(uint32_t *table, size_t table_words, vs_hyperedge hyperedge);
+
+/* Removes what every record names, or nothing at all: each record is judged against the table as it stood at the start. A vertex goes
+ * out of every list, and a list that is emptied goes with it, whether a record names it or not. A record may be repeated. There may be
+ * any number of records; where there are none the call is done and changes nothing. Refusals 1, 15. */
+vs_reply vs_withdraw_tray(uint32_t *table, size_t table_words, const vs_withdrawal *records, size_t count);
 
 /* Every word becomes 0, whatever it was. Refusal 1 for another length only. */
 vs_reply vs_clear(uint32_t *table, size_t table_words);

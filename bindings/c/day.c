@@ -28,6 +28,12 @@ int main(void) {
     r = vs_merge_vertices(table, VS_TABLE_WORDS, (vs_vertex){1}, (vs_vertex){0});
     printf("0 merged into 1: refused %u, side by side in hyperedge %u\n", r.number, (unsigned)r.detail);
 
+    const vs_withdrawal tray[] = {{VS_VERTEX_KIND, 4}, {VS_HYPEREDGE_KIND, 1}, {VS_VERTEX_KIND, 9}};
+    r = vs_withdraw_tray(table, VS_TABLE_WORDS, tray, 3);
+    printf("a tray with vertex 9 in it: refused %u, record %u\n", r.number, (unsigned)r.detail);
+    r = vs_withdraw_tray(table, VS_TABLE_WORDS, tray, 2);
+    printf("the tray without it: answer %u\n", r.number);
+
     vs_add_hyperedge(table, VS_TABLE_WORDS, (const uint32_t[]){2, 0}, 2, 1);
     r = vs_topological_sort(table, VS_TABLE_WORDS, sorted, 8);
     printf("with a step from 2 back to 0: refused %u\n", r.number);

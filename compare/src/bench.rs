@@ -3,7 +3,7 @@ use std::hint::black_box;
 use std::time::Duration;
 
 use hypergraph::HypergraphQuery;
-use vaultsorrel::{self as vs, Hyperedge, Vertex};
+use vaultsorrel::{self as vs, Hyperedge, Vertex, Withdrawal};
 
 use crate::calls::{Both, Edit};
 use crate::draw::Draw;
@@ -169,7 +169,7 @@ fn edit<A, B>(clock: Duration, from: &Both, ours: impl Fn(&mut [u32]) -> A, rust
     )
 }
 
-/// Every function that both sides have, on tables of the kind.
+/// Every function that both sides have, on tables of the kind; and a tray of each sixth vertex, 40 at most, beside the Rust's removals of them.
 fn of_kind(kind: Kind) -> Vec<(&'static str, Medians)> {
     let (all, room) = (built(kind, 0), built(kind, 1));
     let (t, g) = (&all.table[..], &all.graph);
@@ -184,6 +184,8 @@ fn of_kind(kind: Kind) -> Vec<(&'static str, Medians)> {
     let apart = |z: &&u32| **z != x && !beside.contains(&oracle::vertex(**z));
     let z = *numbers.iter().rev().find(apart).expect("a vertex that stands apart");
     let list = Draw::new(2).members(&numbers[..numbers.len() - 1], kind.members, false);
+    let sixth: Vec<u32> = numbers.iter().copied().step_by(6).take(40).collect();
+    let tray: Vec<_> = sixth.iter().map(|&v| Withdrawal::vertex(Vertex(v))).collect();
     let (clock, mut rows) = (clock(), Vec::new());
     macro_rules! edits {
         ($($name:ident $from:ident ($($ours:expr),*) ($($rust:expr),*);)*) => {
@@ -204,6 +206,11 @@ fn of_kind(kind: Kind) -> Vec<(&'static str, Medians)> {
         remove_hyperedge all (Hyperedge(0)) (oracle::hyperedge(0));
         clear all () ();
     }
+    let one_by_one = |g: &mut Graph| sixth.iter().try_for_each(|&v| g.remove_vertex(oracle::vertex(v)));
+    rows.push((
+        "withdraw_tray",
+        edit(clock, &all, |t| vs::withdraw_tray(t, &tray), one_by_one),
+    ));
     queries! {
         is_empty () ();
         get_adjacent_vertices_from (Vertex(x), out) (v);

@@ -1,6 +1,6 @@
 //! The calls that are compared: edits and queries, made on the table and on the Rust.
 use hypergraph::HypergraphQuery;
-use vaultsorrel::{Answer, Hyperedge, TABLE_WORDS, Vertex};
+use vaultsorrel::{Answer, Hyperedge, TABLE_WORDS, Vertex, Withdrawal};
 
 use crate::frames;
 use crate::oracle::{self, Graph, Reply, done, listed, reply};
@@ -83,6 +83,14 @@ pub struct Both {
 /// The first member that equals the one after it.
 pub fn twice_in_a_row(list: &[u32]) -> Option<u32> {
     list.windows(2).find(|pair| pair[0] == pair[1]).map(|pair| pair[0])
+}
+
+fn vertex(number: usize) -> Withdrawal {
+    Withdrawal::vertex(Vertex(number as u32))
+}
+
+fn hyperedge(number: usize) -> Withdrawal {
+    Withdrawal::hyperedge(Hyperedge(number as u32))
 }
 
 fn ours(answer: Answer, out: &[u32], lists: bool) -> Reply {
@@ -234,6 +242,52 @@ impl Both {
                 done(0)
             }
             Edit::ByText(edit) => self.rust_edit(edit),
+        }
+    }
+
+    /// What is live, as records of a tray: vertices, then hyperedges, ascending.
+    pub fn live(&self) -> Vec<Withdrawal> {
+        let mut live: Vec<_> = self
+            .graph
+            .vertex_indices()
+            .expect("a list")
+            .iter()
+            .map(|v| vertex(v.0))
+            .collect();
+        live.extend(self.graph.hyperedge_indices().expect("a list").iter().map(|e| hyperedge(e.0)));
+        live.sort_unstable();
+        live
+    }
+
+    /// The position of the first record of another kind, or that the Rust does not have.
+    fn faulty(&self, tray: &[Withdrawal]) -> Option<usize> {
+        tray.iter().position(|record| match record.kind {
+            Withdrawal::VERTEX => !self.is_live(record.number),
+            Withdrawal::HYPEREDGE => self.graph.get_hyperedge_weight(oracle::hyperedge(record.number)).is_err(),
+            _ => true,
+        })
+    }
+
+    /// The Rust's table after single removals of the records, one after the other; one of what is gone by then is refused and changes nothing.
+    fn removed(&self, tray: &[Withdrawal]) -> Vec<u32> {
+        let mut graph = self.graph.clone();
+        for record in tray {
+            let _ = match record.kind {
+                Withdrawal::VERTEX => graph.remove_vertex(oracle::vertex(record.number)),
+                _ => graph.remove_hyperedge(oracle::hyperedge(record.number)),
+            };
+        }
+        oracle::words(&graph)
+    }
+
+    /// A tray withdrawn here from a copy of the table: our reply, the one that is due by what the Rust has, and whether the table after it
+    /// is the Rust's after single removals in each of the orders; where it is refused, whether it is the table before it.
+    pub fn tray(&self, tray: &[Withdrawal], orders: &[Vec<Withdrawal>]) -> (Reply, Reply, bool) {
+        let mut table = self.table.clone();
+        let answer = ours(vaultsorrel::withdraw_tray(&mut table, tray), &self.out, false);
+        match self.faulty(tray) {
+            None => (answer, done(0), orders.iter().all(|order| table == self.removed(order))),
+            Some(position) => (answer, oracle::refusal(15, position), table == self.table),
         }
     }
 

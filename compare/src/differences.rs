@@ -1,5 +1,6 @@
 //! Inputs outside the domain on which the two differ: both sides are run and what each says is printed.
 use hypergraph::HypergraphQuery;
+use vaultsorrel::{Hyperedge, Vertex, Withdrawal};
 
 use crate::calls::{Both, Edit, Query};
 use crate::oracle::{self, Reply};
@@ -166,10 +167,42 @@ fn neighbours() {
     );
 }
 
+/// A tray here, and its records removed one after the other by the Rust: what each side answers, and what it holds after it.
+fn tray(n: u32, lists: &[(&[u32], u32)], tray: &[Withdrawal]) {
+    let mut both = Both::new();
+    for edit in table(n, lists, &[]) {
+        both.replies(&edit);
+    }
+    let mut withdrawn = both.table.clone();
+    let (number, detail) = match vaultsorrel::withdraw_tray(&mut withdrawn, tray) {
+        Ok(detail) => (0, detail),
+        Err(refusal) => (refusal.number(), refusal.detail()),
+    };
+    let mut answers = Vec::new();
+    for record in tray {
+        let (_, rust) = both.replies(&match record.kind {
+            Withdrawal::VERTEX => Edit::RemoveVertex(record.number),
+            _ => Edit::RemoveHyperedge(record.number),
+        });
+        answers.push((rust.number, rust.detail));
+    }
+    println!("vertices below {n}, {lists:?}; the tray {tray:?}");
+    println!("  Rust answers {answers:?}, {}", held(&oracle::words(&both.graph)));
+    println!("  here answer {number} {detail}, {}", held(&withdrawn));
+}
+
+/// Where a record of a tray is wrong, or names what another one has emptied.
+fn trays() {
+    let (vertex, hyperedge) = (|v| Withdrawal::vertex(Vertex(v)), Withdrawal::hyperedge(Hyperedge(0)));
+    tray(1, &[], &[vertex(0), vertex(1)]);
+    tray(1, &[(&[0], 0)], &[vertex(0), hyperedge]);
+}
+
 pub fn run() {
     limits();
     neighbours();
     map_order();
     paths();
     merges();
+    trays();
 }

@@ -1,5 +1,6 @@
 //! Random edits, from a seed.
 use hypergraph::HypergraphQuery;
+use vaultsorrel::Withdrawal;
 
 use crate::calls::{Both, Edit};
 
@@ -82,6 +83,25 @@ impl Draw {
             _ if self.below(30) == 0 => Edit::Clear,
             _ => Edit::AddHyperedge(self.live_members(both, 32), self.below(3)),
         }
+    }
+
+    /// A tray of up to so many live records, some of them more than once; in half of the trays with one or two more that may be of another
+    /// kind or not live.
+    pub fn tray(&mut self, both: &Both, longest: u32) -> Vec<Withdrawal> {
+        let live = both.live();
+        let some = if live.is_empty() { 0 } else { self.below(longest + 1) };
+        let mut tray: Vec<_> = (0..some).map(|_| live[self.below(live.len() as u32) as usize]).collect();
+        let (next_vertex, next_hyperedge) = both.graph.next_numbers();
+        for _ in 0..[0, 0, 1, 2][self.below(4) as usize] {
+            let (kind, numbers) = match self.below(3) {
+                0 => (Withdrawal::VERTEX, next_vertex + 2),
+                1 => (Withdrawal::HYPEREDGE, next_hyperedge + 2),
+                _ => ([2, 3, 256, u32::MAX][self.below(4) as usize], next_vertex),
+            };
+            let number = self.below(numbers as u32);
+            tray.insert(self.below(some + 1) as usize, Withdrawal { kind, number });
+        }
+        tray
     }
 
     /// So many of the numbers, no two equal ones in a row; where the list is to ascend, each at most once.

@@ -1,6 +1,7 @@
 //! Runs the proved code and the Rust on the same inputs and prints, for each function, how many answers were compared, how many of them
 //! were refusals, how many calls were left out, how many of these for equal neighbours and with the table then read from a text, and how many
-//! answers differed; for each difference the smallest input that was found.
+//! answers differed; for each difference the smallest input that was found. A tray is held against the Rust's single removals, in several
+//! orders, and how many orders there were is printed last.
 mod bench;
 mod calls;
 mod differences;
@@ -13,6 +14,7 @@ use std::collections::BTreeMap;
 use std::path::Path;
 
 use hypergraph::HypergraphQuery;
+use vaultsorrel::{Hyperedge, Vertex, Withdrawal};
 
 use calls::{Both, Edit, Query, name};
 use draw::Draw;
@@ -30,9 +32,13 @@ struct Counts {
     differing: u64,
 }
 
+/// The counts of each function, and how many differences were found. Trays are drawn by themselves, so that the edits and queries of a seed are
+/// the same without them; `orders` counts the orders in which the Rust removed their records.
 struct Run {
     counts: BTreeMap<String, Counts>,
     shown: usize,
+    trays: Draw,
+    orders: u64,
 }
 
 /// The table that the edits build, both sides, without those that the rules do not compare.
@@ -255,6 +261,7 @@ impl Run {
         }
         self.everything(&mut both, &done, vertices, hyperedges);
         self.merges(&mut both, &done, vertices);
+        self.small_trays(&both, &done, vertices, hyperedges);
     }
 
     /// Every two vertices below the bound and one beyond merged, each time on the same table.
@@ -265,6 +272,46 @@ impl Run {
                 self.edit(both, &mut edits.to_vec(), Edit::MergeVertices(v, w));
                 both.table.clone_from(&table);
                 both.graph = graph.clone();
+            }
+        }
+    }
+
+    /// A tray on the table in hand, which stays as it is.
+    fn tray(&mut self, both: &Both, edits: &[Edit], tray: &[Withdrawal]) {
+        let orders = orders(tray);
+        let (a, b, same) = both.tray(tray, &orders);
+        let differs = a != b || !same;
+        self.count("withdraw_tray".to_string(), &b, differs);
+        if b.number == 0 {
+            self.orders += orders.len() as u64;
+        }
+        if differs {
+            self.show(|| format!("differs: {tray:?} after {edits:?}\n  ours {a:?}\n  due {b:?}, tables the same: {same}"));
+        }
+    }
+
+    fn drawn_tray(&mut self, both: &Both, edits: &[Edit], longest: u32) {
+        let tray = self.trays.tray(both, longest);
+        self.tray(both, edits, &tray);
+    }
+
+    /// Every tray of up to two records with numbers below the bounds and one beyond, and with another kind; and every set of what is live.
+    fn small_trays(&mut self, both: &Both, edits: &[Edit], vertices: u32, hyperedges: u32) {
+        let mut records: Vec<_> = (0..=vertices).map(|v| Withdrawal::vertex(Vertex(v))).collect();
+        records.extend((0..=hyperedges).map(|e| Withdrawal::hyperedge(Hyperedge(e))));
+        records.push(Withdrawal { kind: 2, number: 0 });
+        self.tray(both, edits, &[]);
+        for &a in &records {
+            self.tray(both, edits, &[a]);
+            for &b in &records {
+                self.tray(both, edits, &[a, b]);
+            }
+        }
+        let live = both.live();
+        for set in 0..1 << live.len() {
+            let tray: Vec<_> = (0..live.len()).filter(|k| set >> k & 1 == 1).map(|k| live[k]).collect();
+            if tray.len() > 2 {
+                self.tray(both, edits, &tray);
             }
         }
     }
@@ -286,6 +333,9 @@ impl Run {
             if queries {
                 self.drawn(draw, &mut both, &edits);
             }
+            if queries || self.trays.below(40) == 0 {
+                self.drawn_tray(&both, &edits, 40);
+            }
         }
     }
 
@@ -303,7 +353,7 @@ impl Run {
     }
 
     /// A table built by additions alone, with walks.
-    fn additions(&mut self, draw: &mut Draw, n: u32, m: u32, members: u32, acyclic: bool) -> Both {
+    fn additions(&mut self, draw: &mut Draw, n: u32, m: u32, members: u32, acyclic: bool) {
         let mut both = Both::new();
         let mut edits = Vec::new();
         for v in 0..n {
@@ -325,8 +375,26 @@ impl Run {
             self.query(&mut both, &edits, Query::RandomWalk(v, steps, draw.word()));
         }
         self.slow(&mut both, &edits);
-        both
+        for longest in [1, 2, 3, 40, 40, 1000] {
+            self.drawn_tray(&both, &edits, longest);
+        }
+        self.tray(&both, &edits, &both.live());
     }
+}
+
+/// The tray, its records from the last to the first, its vertices first, and its hyperedges first; each order once.
+fn orders(tray: &[Withdrawal]) -> Vec<Vec<Withdrawal>> {
+    let turned = tray.iter().rev().copied().collect();
+    let (vertices, hyperedges): (Vec<_>, Vec<_>) = tray.iter().partition(|record| record.kind == Withdrawal::VERTEX);
+    let mut all = vec![
+        tray.to_vec(),
+        turned,
+        [&vertices[..], &hyperedges].concat(),
+        [&hyperedges[..], &vertices].concat(),
+    ];
+    all.sort_unstable();
+    all.dedup();
+    all
 }
 
 /// Every list of one up to `longest` members below n.
@@ -366,6 +434,8 @@ fn compare(seed: u64) {
     let mut run = Run {
         counts: BTreeMap::new(),
         shown: 0,
+        trays: Draw::new(seed + 1),
+        orders: 0,
     };
     run.small();
     for round in 0..100 {
@@ -395,5 +465,9 @@ fn compare(seed: u64) {
         all.differing += counts.differing;
     }
     row("all", &all);
+    println!(
+        "the Rust removed the records of trays one after the other in {} orders",
+        run.orders
+    );
     std::process::exit(i32::from(all.differing != 0));
 }

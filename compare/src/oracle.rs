@@ -30,6 +30,14 @@ pub fn listed(words: Vec<u32>) -> Reply {
     }
 }
 
+pub fn refusal(number: u32, detail: usize) -> Reply {
+    Reply {
+        number,
+        detail: detail as u64,
+        words: Vec::new(),
+    }
+}
+
 fn refused(error: Error) -> Reply {
     let (number, detail) = match error {
         HypergraphError::HyperedgeCreationNoVertices(weight) => (2, weight),
@@ -41,11 +49,7 @@ fn refused(error: Error) -> Reply {
         HypergraphError::HyperedgesInvalidIntersections => (10, 0),
         other => unreachable!("{other:?}"),
     };
-    Reply {
-        number,
-        detail: detail as u64,
-        words: Vec::new(),
-    }
+    refusal(number, detail)
 }
 
 pub fn reply<T>(answer: Result<T, Error>, make: impl FnOnce(T) -> Reply) -> Reply {

@@ -19,6 +19,34 @@ pub struct Vertex(pub u32);
 #[derive(Clone, Copy, Debug, PartialEq, Eq, PartialOrd, Ord, Hash)]
 pub struct Hyperedge(pub u32);
 
+/// A record of a tray: what is to be withdrawn.
+#[repr(C)]
+#[derive(Clone, Copy, Debug, PartialEq, Eq, PartialOrd, Ord, Hash)]
+pub struct Withdrawal {
+    /// [`Withdrawal::VERTEX`] or [`Withdrawal::HYPEREDGE`]; any other kind is refused.
+    pub kind: u32,
+    pub number: u32,
+}
+
+impl Withdrawal {
+    pub const VERTEX: u32 = 0;
+    pub const HYPEREDGE: u32 = 1;
+
+    pub const fn vertex(vertex: Vertex) -> Self {
+        Withdrawal {
+            kind: Self::VERTEX,
+            number: vertex.0,
+        }
+    }
+
+    pub const fn hyperedge(hyperedge: Hyperedge) -> Self {
+        Withdrawal {
+            kind: Self::HYPEREDGE,
+            number: hyperedge.0,
+        }
+    }
+}
+
 /// Why a call was refused.
 #[derive(Clone, Copy, Debug, PartialEq, Eq)]
 pub enum Refusal {
@@ -42,6 +70,8 @@ pub enum Refusal {
     SameVertex(Vertex),
     /// With the lowest hyperedge in which the vertices to merge stand side by side.
     SideBySide(Hyperedge),
+    /// With the position, from 0, of the first record that is of another kind or not live.
+    BadRecord(u64),
     /// With the first member that equals the one after it.
     EqualNeighbours(Vertex),
 }
@@ -64,6 +94,7 @@ impl Refusal {
             Refusal::BadText(_) => 12,
             Refusal::SameVertex(_) => 13,
             Refusal::SideBySide(_) => 14,
+            Refusal::BadRecord(_) => 15,
             Refusal::EqualNeighbours(_) => 20,
         }
     }
@@ -74,7 +105,7 @@ impl Refusal {
             Refusal::NoMembers(d) => d.into(),
             Refusal::VertexNotLive(v) | Refusal::SameVertex(v) | Refusal::EqualNeighbours(v) => v.0.into(),
             Refusal::HyperedgeNotLive(e) | Refusal::SameMembers(e) | Refusal::SideBySide(e) => e.0.into(),
-            Refusal::TooManyMembers(d) | Refusal::NoRoom(d) | Refusal::BadText(d) => d,
+            Refusal::TooManyMembers(d) | Refusal::NoRoom(d) | Refusal::BadText(d) | Refusal::BadRecord(d) => d,
             _ => 0,
         }
     }
@@ -108,6 +139,7 @@ impl Reply {
             12 => Refusal::BadText(self.detail),
             13 => Refusal::SameVertex(Vertex(word)),
             14 => Refusal::SideBySide(Hyperedge(word)),
+            15 => Refusal::BadRecord(self.detail),
             20 => Refusal::EqualNeighbours(Vertex(word)),
             other => unreachable!("answer number {other}"),
         })
@@ -115,7 +147,7 @@ impl Reply {
 }
 
 mod c {
-    use super::{Hyperedge, Reply, Vertex};
+    use super::{Hyperedge, Reply, Vertex, Withdrawal};
 
     extern "C" {
         pub fn vs_add_vertex(table: *mut u32, table_words: usize, weight: u32) -> Reply;
@@ -130,6 +162,7 @@ mod c {
         pub fn vs_remove_vertex(table: *mut u32, table_words: usize, vertex: Vertex) -> Reply;
         pub fn vs_merge_vertices(table: *mut u32, table_words: usize, v: Vertex, w: Vertex) -> Reply;
         pub fn vs_remove_hyperedge(table: *mut u32, table_words: usize, hyperedge: Hyperedge) -> Reply;
+        pub fn vs_withdraw_tray(table: *mut u32, table_words: usize, records: *const Withdrawal, count: usize) -> Reply;
         pub fn vs_clear(table: *mut u32, table_words: usize) -> Reply;
         pub fn vs_is_empty(table: *const u32, table_words: usize) -> Reply;
         pub fn vs_get_adjacent_vertices_from(
@@ -281,6 +314,13 @@ pub fn merge_vertices(table: &mut [u32], v: Vertex, w: Vertex) -> Answer {
 pub fn remove_hyperedge(table: &mut [u32], hyperedge: Hyperedge) -> Answer {
     // The pointers and counts are those of slices that live and do not overlap for the time of the call.
     unsafe { c::vs_remove_hyperedge(table.as_mut_ptr(), table.len(), hyperedge) }.answer()
+}
+
+/// Every record is withdrawn, or none: each is judged against the table as it stood at the start. A record may be repeated, and a
+/// hyperedge whose members are all withdrawn goes with them, named or not.
+pub fn withdraw_tray(table: &mut [u32], records: &[Withdrawal]) -> Answer {
+    // The pointers and counts are those of slices that live and do not overlap for the time of the call.
+    unsafe { c::vs_withdraw_tray(table.as_mut_ptr(), table.len(), records.as_ptr(), records.len()) }.answer()
 }
 
 /// Every word becomes 0.

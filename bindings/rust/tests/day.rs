@@ -89,6 +89,39 @@ fn two_vertices_are_merged() {
 }
 
 #[test]
+fn a_tray_is_withdrawn_whole_or_not_at_all() {
+    let mut table = vec![0; TABLE_WORDS];
+    for weight in 0..5 {
+        add_vertex(&mut table, weight).unwrap();
+    }
+    for list in [[0, 1], [1, 2], [3, 4]] {
+        add_hyperedge(&mut table, &list, 5).unwrap();
+    }
+    let (vertex, hyperedge) = (|v| Withdrawal::vertex(Vertex(v)), |e| Withdrawal::hyperedge(Hyperedge(e)));
+    let other = Withdrawal { kind: 2, number: 0 };
+    let before = table.clone();
+    assert_eq!(withdraw_tray(&mut table, &[]), Ok(0));
+    assert_eq!(withdraw_tray(&mut table, &[vertex(0), vertex(5)]), Err(Refusal::BadRecord(1)));
+    assert_eq!(withdraw_tray(&mut table, &[vertex(3), hyperedge(3), other]), Err(Refusal::BadRecord(1)));
+    assert_eq!(withdraw_tray(&mut table, &[other, vertex(5)]), Err(Refusal::BadRecord(0)));
+    assert_eq!(table, before);
+
+    // Hyperedge 0 is emptied before its own record, vertex 0 is named twice, and hyperedge 1 keeps what is left of it.
+    let tray = [vertex(0), vertex(1), hyperedge(0), vertex(0), hyperedge(2)];
+    let mut alone = table.clone();
+    assert_eq!(withdraw_tray(&mut table, &tray), Ok(0));
+    remove_vertex(&mut alone, Vertex(1)).unwrap();
+    remove_hyperedge(&mut alone, Hyperedge(2)).unwrap();
+    remove_vertex(&mut alone, Vertex(0)).unwrap();
+    assert_eq!(table, alone);
+    let mut out = [7; 3];
+    assert_eq!(get_full_vertex_hyperedges(&table, Vertex(2), &mut out), Ok(2));
+    assert_eq!(out, [1, 2, 7]);
+    assert_eq!(withdraw_tray(&mut table, &tray), Err(Refusal::BadRecord(0)));
+    assert_eq!(withdraw_tray(&mut table[1..], &tray), Err(Refusal::NotWellFormed));
+}
+
+#[test]
 fn frame_text_reads_back() {
     let mut table = vec![0; TABLE_WORDS];
     add_vertex(&mut table, 7).unwrap();

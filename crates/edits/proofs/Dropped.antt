@@ -22,8 +22,8 @@ use Rattle.layout.proofs.Position.{position-found}
 use Rattle.layout.proofs.Read.{live-hyperedges, live-ascends, vertex-found, hyperedge-found, members-le}
 use Rattle.layout.proofs.Words.{words-read}
 use Rattle.layout.proofs.Answers.{on-missing, on-found}
-use Rattle.edits.specs.Edits.{removeVertex, removeHyperedge}
-use Rattle.edits.specs.Removing.{stripped, stripVertex, vertexTakenOut}
+use Rattle.edits.specs.Edits.{without, removeVertex, removeHyperedge}
+use Rattle.edits.specs.Removing.{sifted, stripped, stripVertex, vertexTakenOut}
 use Rattle.edits.specs.Results.{removeVertexResult, removeHyperedgeResult}
 use Rattle.edits.proofs.Laid.{hyperedge-out, vertex-out}
 
@@ -100,7 +100,7 @@ module _ (x : ℕ) (ws : List ℕ) (p : Found) (q : p ≡ position x (liveVertic
 
     pub vertex-done : Formed limit ws → (ws₁ ws₂ : List ℕ) → ws₁ ≡ words limit (stripVertex x (read limit ws))
         → ws₂ ≡ vertexTakenOut i n ws₁ → result (Done 0) ws₂ ≡ removeVertexResult x ws (read limit ws)
-    unfolding removeVertexResult removeVertex stripVertex stripped
+    unfolding removeVertexResult removeVertex stripVertex sifted without
     vertex-done f ws₁ ws₂ d₁ d₂ =
         ap (result (Done 0)) (d₂ ∙ vertex-dropped limit ws f x i n (stripped x (readHyperedges limit ws)) ws₁ (sym q ∙ h) e d₁)
         ∙ on-found (liveVertices (read limit ws)) vertexMissing x ws _ p q i h

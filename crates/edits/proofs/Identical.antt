@@ -17,8 +17,8 @@ use Rattle.layout.specs.declared.Answer.the-variants.{Done}
 use Rattle.layout.specs.Layout.{limit, hyperedgeLimit, hyperedgeWord, membersAt, hyperedgeAt, readHyperedges, read}
 use Rattle.layout.specs.Inner.{Formed}
 use Rattle.layout.specs.Answers.{Result, result}
-use Rattle.edits.specs.Results.{identical}
-use Rattle.edits.specs.Stages.{firstPassing, addNewResult, addJudgedResult}
+use Rattle.edits.specs.Results.{identical, firstPassing}
+use Rattle.edits.specs.Stages.{addNewResult, addJudgedResult}
 use Rattle.edits.proofs.Passing.{passing-within, on-passing, on-none-passing}
 
 -- ---- the same list: a loop over i, with `drop i a` and `drop i b` left

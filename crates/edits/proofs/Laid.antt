@@ -89,7 +89,7 @@ module _ (L : ℕ) (t : Table) (hv : length (t .vertices) ≤ vertexLimit) where
   unfolding words
   with-hyperedges es = ap (λ (l : List ℕ). set (l ++ hyperedgeArea L es) 3 (length es)) front-of
 
-  with-vertices : (vs : List Vertex) → set (take verticesAt (words L t) ++ (vertexArea vs ++ drop hyperedgesAt (words L t))) 2 (length vs)
+  pub with-vertices : (vs : List Vertex) → set (take verticesAt (words L t) ++ (vertexArea vs ++ drop hyperedgesAt (words L t))) 2 (length vs)
       ≡ words L (record { nextVertex = t .nextVertex; nextHyperedge = t .nextHyperedge; vertices = vs; hyperedges = t .hyperedges })
   unfolding words
   with-vertices vs = ap (λ (l : List ℕ). set (headOf t ++ (vertexArea vs ++ l)) 2 (length vs)) hyperedges-of

@@ -15,6 +15,8 @@ pub mod StaysFormed
 pub mod Copied
 pub mod Laid
 pub mod Dropped
-pub mod OthersKept
+pub mod KeptWords
+pub mod Relaid
 pub mod Rewritten
+pub mod Sifted
 pub mod Stripped

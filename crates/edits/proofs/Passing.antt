@@ -18,8 +18,7 @@ use Rattle.layout.specs.Content.{Hyperedge, noHyperedge}
 use Rattle.layout.specs.Layout.{limit, hyperedgeLimit, hyperedgeWord, hyperedgeCount, hyperedgeAt, readHyperedges}
 use Rattle.layout.specs.Inner.{Formed}
 use Rattle.layout.specs.Answers.{Result, result}
-use Rattle.edits.specs.Results.{onFirst, byNumber}
-use Rattle.edits.specs.Stages.{firstPassingFrom, firstPassing}
+use Rattle.edits.specs.Results.{onFirst, byNumber, firstPassingFrom, firstPassing}
 
 -- ---- a loop over j, with `drop j` of the hyperedges left; r is what the code found of hyperedge j
 

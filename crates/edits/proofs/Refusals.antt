@@ -21,8 +21,8 @@ use Rattle.layout.proofs.Steps.{step-from}
 use Rattle.edits.specs.declared.Judgement.{Judgement}
 use Rattle.edits.specs.declared.Judgement.the-variants.{Refused, Fine}
 use Rattle.lists.specs.Inner.{overAt}
-use Rattle.edits.specs.Results.{lastNumber, onSome, onShort, twiceInARow, onUnequal, onRoom, onNumber, clearResult, emptyResult}
-use Rattle.edits.specs.Stages.{onMembers, orElse, NeighboursJudged, JudgedBy, firstPassing}
+use Rattle.edits.specs.Results.{lastNumber, onSome, onShort, twiceInARow, onUnequal, onRoom, onNumber, clearResult, emptyResult, firstPassing}
+use Rattle.edits.specs.Stages.{onMembers, orElse, NeighboursJudged, JudgedBy}
 use Rattle.edits.proofs.Stored.{zeros-all}
 use Rattle.edits.proofs.Passing.{on-first-passing, on-none-first}
 

@@ -1,15 +1,16 @@
--- A record stored part by part, and records written anew one after the other: the words that are left are those of the table with the new hyperedges. Assumes nothing.
-use mathlib.Core.Path.{_≡_, refl, sym, ap, ap₂, _∙_}
+-- A hyperedge record stored part by part, and the records written anew one after the other: the words that are left are those of the table with the new
+-- hyperedges. Assumes nothing.
+use mathlib.Core.Path.{_≡_, sym, ap, ap₂, _∙_}
 use mathlib.Core.List.{List, [], _∷_, _++_, append-assoc, append-nil}
 use Prim.Native.Nat.{ℕ, suc, _+_, _*_, _-_, _≤_, _<_}
 use native.Mathlib.Nat.{mul-le-mul-right, suc-mul}
 use native.Mathlib.Numerals.{add-one, add-two}
 use native.Mathlib.Omega.{arith}
 use lib.ListN.{length, getD, set, take, drop, replicate, length-append, length-replicate, drop-of-length-le}
-use lib.Seq.{paste, sets-eq, take-paste, drop-paste, length-paste, take-all, take-take, take-append-le, take-at, drop-at, drop-drop, getD-drop, length-take-le}
+use lib.Seq.{paste, sets-eq, take-paste, drop-paste, length-paste, take-all, take-take, take-append-le, drop-at, drop-drop, getD-drop, length-take-le}
 use Rattle.lists.specs.Lists.{flat, pad}
 use Rattle.lists.proofs.Tab.{length-tab}
-use Rattle.lists.proofs.Flat.{flat-snoc, length-pad}
+use Rattle.lists.proofs.Flat.{length-pad}
 use Rattle.layout.specs.Content.{Hyperedge}
 use Rattle.layout.specs.Layout.{hyperedgeLimit, recordSize, hyperedgesAt, size, hyperedgeWord, hyperedgeCount, countAt, hyperedgeAt, hyperedgeWords, nextVertexIn, nextHyperedgeIn, readVertices, read, words}
 use Rattle.layout.specs.Inner.{Formed}
@@ -17,6 +18,7 @@ use Rattle.layout.proofs.Record.{hyperedge-moved}
 use Rattle.layout.proofs.Words.{words-read}
 use Rattle.edits.specs.Rewriting.{Rewritten}
 use Rattle.edits.proofs.Laid.{with-hyperedges}
+use Rattle.edits.proofs.Relaid.{relaid-none, relaid-more, relaid-skip, relaid-cleared}
 
 -- ---- one record: F and its padding are stored behind the three words of its head
 
@@ -62,30 +64,16 @@ record-stored L d F a c x w d₂ d₃ d₄ h ec hc e₂ e₃ e₄ =
     e₄ ∙ ap₂ (λ (s : List ℕ) (i : ℕ). set (set (set s a x) (a + 1) w) (a + 2) i) body ec
     ∙ head-paste d a L x w (length F) (pad L F) (length-pad L F (omega arith)) h
 
--- what lies before a paste is as it was
-pub take-before : (d : List ℕ) (p : ℕ) (x : List ℕ) (n : ℕ) → p ≤ length d → take p (paste d p x n) ≡ take p d
-take-before d p x n h = ap (take p) (append-assoc (take p d) (take n x) (drop (p + n) d)) ∙ take-at (take p d) (take n x ++ drop (p + n) d) p (length-take-le p d h)
-
 -- ---- record after record
 
 pub rewritten-none : (L : ℕ) (ws : List ℕ) → Rewritten L ws [] 0 0 ws
-unfolding flat
-rewritten-none L ws = record {
-  same = refl;
-  behind = omega arith;
-  count = refl;
-  front = ap (λ (n : ℕ). take n ws) (let e : hyperedgeWord L 0 ≡ hyperedgesAt = omega arith in e) ∙ sym (append-nil (take hyperedgesAt ws));
-  ahead = refl;
-}
+rewritten-none L ws = relaid-none (hyperedgeWords L) hyperedgesAt (recordSize L) ws
 
 module _ (L : ℕ) (ws : List ℕ) (es : List Hyperedge) (j k : ℕ) (s : List ℕ) (f : Formed L ws) (st : Rewritten L ws es j k s) (h : j < hyperedgeCount ws) where
-  inside : (i : ℕ) → i ≤ j → hyperedgeWord L i + recordSize L ≤ length s
-  inside i l =
-      omega (arith, st .same, f .shape .sized, mul-le-mul-right (recordSize L) (let q : suc i ≤ hyperedgeCount ws = omega arith in q), mul-le-mul-right (recordSize L) (f .shape .hyperedges-le), suc-mul i (recordSize L))
-
   -- record j lies within the words, and is as it was
   pub record-inside : hyperedgeWord L j + recordSize L ≤ length s
-  record-inside = inside j (omega arith)
+  record-inside =
+      omega (arith, st .same, f .shape .sized, mul-le-mul-right (recordSize L) (let q : suc j ≤ hyperedgeCount ws = omega arith in q), mul-le-mul-right (recordSize L) (f .shape .hyperedges-le), suc-mul j (recordSize L))
 
   pub word-same : (r : ℕ) → getD s (hyperedgeWord L j + r) 0 ≡ getD ws (hyperedgeWord L j + r) 0
   word-same r = sym (getD-drop (hyperedgeWord L j) s r 0) ∙ ap (λ (x : List ℕ). getD x r 0) (st .ahead) ∙ getD-drop (hyperedgeWord L j) ws r 0
@@ -101,46 +89,12 @@ module _ (L : ℕ) (ws : List ℕ) (es : List Hyperedge) (j k : ℕ) (s : List �
     words-length : length (hyperedgeWords L e) ≡ recordSize L
     words-length = omega (arith, length-pad L (e .members) le)
 
-    at-k : hyperedgeWord L k + recordSize L ≤ length s
-    at-k = inside k (st .behind)
-
-    kept-length : length s′ ≡ length ws
-    kept-length = ap length q ∙ length-paste s (hyperedgeWord L k) (hyperedgeWords L e) (recordSize L) at-k (omega (arith, words-length)) ∙ st .same
-
-    still-ahead : drop (hyperedgeWord L (j + 1)) s′ ≡ drop (hyperedgeWord L (j + 1)) ws
-    still-ahead =
-        let b : ℕ = hyperedgeWord L k + recordSize L in
-        let g : hyperedgeWord L j + recordSize L ≡ hyperedgeWord L (j + 1) = omega (arith, ap (λ (n : ℕ). n * recordSize L) (add-one j), suc-mul j (recordSize L)) in
-        let p : b + (hyperedgeWord L (j + 1) - b) ≡ hyperedgeWord L (j + 1) = omega (arith, mul-le-mul-right (recordSize L) (st .behind)) in
-        ap (λ (n : ℕ). drop n s′) (sym p) ∙ sym (drop-drop (hyperedgeWord L (j + 1) - b) b s′)
-        ∙ ap (drop (hyperedgeWord L (j + 1) - b)) (ap (drop b) q ∙ drop-paste s (hyperedgeWord L k) (hyperedgeWords L e) (recordSize L) (omega (arith, at-k)) (omega (arith, words-length)))
-        ∙ drop-drop (hyperedgeWord L (j + 1) - b) b s ∙ ap (λ (n : ℕ). drop n s) (p ∙ sym g)
-        ∙ sym (drop-drop (recordSize L) (hyperedgeWord L j) s) ∙ ap (drop (recordSize L)) (st .ahead) ∙ drop-drop (recordSize L) (hyperedgeWord L j) ws ∙ ap (λ (n : ℕ). drop n ws) g
-
     -- it counts, or the next record overwrites it
     pub rewritten-more : Rewritten L ws (es ++ (e ∷ [])) (j + 1) (k + 1) s′
-    rewritten-more =
-        let g : hyperedgeWord L (k + 1) ≡ hyperedgeWord L k + recordSize L = omega (arith, ap (λ (n : ℕ). n * recordSize L) (add-one k), suc-mul k (recordSize L)) in
-        record {
-          same = kept-length;
-          behind = omega (arith, st .behind);
-          count = omega (arith, length-append es (e ∷ []), st .count);
-          front = ap₂ take g q ∙ take-paste s (hyperedgeWord L k) (hyperedgeWords L e) (recordSize L) (omega (arith, at-k)) (omega (arith, words-length))
-              ∙ ap₂ _++_ (st .front) (take-all (recordSize L) (hyperedgeWords L e) (omega (arith, words-length)))
-              ∙ append-assoc (take hyperedgesAt ws) (flat (hyperedgeWords L) es) (hyperedgeWords L e)
-              ∙ ap (λ (r : List ℕ). take hyperedgesAt ws ++ r) (sym (flat-snoc (hyperedgeWords L) es e));
-          ahead = still-ahead;
-        }
+    rewritten-more = relaid-more (hyperedgeWords L) hyperedgesAt (recordSize L) ws es j k s st (omega (arith, record-inside, st .same)) e words-length s′ q
 
     pub rewritten-skip : Rewritten L ws es (j + 1) k s′
-    rewritten-skip =
-        record {
-          same = kept-length;
-          behind = omega (arith, st .behind);
-          count = st .count;
-          front = ap (take (hyperedgeWord L k)) q ∙ take-before s (hyperedgeWord L k) (hyperedgeWords L e) (recordSize L) (omega (arith, at-k)) ∙ st .front;
-          ahead = still-ahead;
-        }
+    rewritten-skip = relaid-skip (hyperedgeWords L) hyperedgesAt (recordSize L) ws es j k s st (omega (arith, record-inside, st .same)) e words-length s′ q
 
 -- ---- what is behind the records that are written is cleared, and their count stored
 
@@ -148,15 +102,12 @@ pub rewritten-done : (L : ℕ) (ws : List ℕ) (es : List Hyperedge) (m k : ℕ)
     → s₂ ≡ paste s (hyperedgeWord L k) (replicate (size L - hyperedgeWord L k) 0) (size L - hyperedgeWord L k) → s₃ ≡ set s₂ 3 k
     → s₃ ≡ words L (record { nextVertex = nextVertexIn ws; nextHyperedge = nextHyperedgeIn ws; vertices = readVertices ws; hyperedges = es })
 rewritten-done L ws es m k s s₂ s₃ f em st e₂ e₃ =
-    let flats : List ℕ = flat (hyperedgeWords L) es in
-    let n : ℕ = size L - hyperedgeWord L k in
-    let hw : hyperedgeWord L k ≤ length s = omega (arith, st .same, f .shape .sized, mul-le-mul-right (recordSize L) (let q : k ≤ hyperedgeLimit = omega (arith, st .behind, f .shape .hyperedges-le) in q)) in
-    let len : length flats ≡ k * recordSize L =
-    omega (arith, length-append (take hyperedgesAt ws) flats, ap length (st .front), length-take-le (hyperedgeWord L k) s hw, length-take-le hyperedgesAt ws (omega (arith, f .shape .sized))) in
-    let z : n ≡ hyperedgeLimit * recordSize L - length flats = omega arith in
-    let end : drop (hyperedgeWord L k + n) s ≡ [] = drop-of-length-le s {i = hyperedgeWord L k + n} (omega (arith, st .same, f .shape .sized)) in
-    let area : s₂ ≡ take hyperedgesAt ws ++ pad (hyperedgeLimit * recordSize L) flats =
-    e₂ ∙ ap₂ _++_ (ap₂ _++_ (st .front) (take-all n (replicate n 0) (rw length-replicate (omega arith)))) end ∙ append-nil _
-    ∙ append-assoc (take hyperedgesAt ws) flats (replicate n 0) ∙ ap (λ (i : ℕ). take hyperedgesAt ws ++ (flats ++ replicate i 0)) z in
-    e₃ ∙ ap₂ (λ (l : List ℕ) (i : ℕ). set l 3 i) (area ∙ ap (λ (l : List ℕ). take hyperedgesAt l ++ pad (hyperedgeLimit * recordSize L) flats) (sym (words-read L ws (f .shape)))) (st .count)
+    let n : ℕ = hyperedgeLimit * recordSize L in
+    let z : size L - hyperedgeWord L k ≡ n - k * recordSize L = omega arith in
+    let end : drop (size L) ws ≡ [] = drop-of-length-le ws {i = size L} (omega (arith, f .shape .sized)) in
+    let area : s₂ ≡ take hyperedgesAt ws ++ pad n (flat (hyperedgeWords L) es) =
+    relaid-cleared (hyperedgeWords L) hyperedgesAt (recordSize L) ws es m k s st n (mul-le-mul-right (recordSize L) (let q : m ≤ hyperedgeLimit = omega (arith, f .shape .hyperedges-le) in q))
+    (omega (arith, f .shape .sized)) s₂ (e₂ ∙ ap (λ (i : ℕ). paste s (hyperedgeWord L k) (replicate i 0) i) z)
+    ∙ ap (λ (r : List ℕ). take hyperedgesAt ws ++ r) (ap (λ (r : List ℕ). pad n (flat (hyperedgeWords L) es) ++ r) end ∙ append-nil _) in
+    e₃ ∙ ap₂ (λ (l : List ℕ) (i : ℕ). set l 3 i) (area ∙ ap (λ (l : List ℕ). take hyperedgesAt l ++ pad n (flat (hyperedgeWords L) es)) (sym (words-read L ws (f .shape)))) (st .count)
     ∙ with-hyperedges L (read L ws) (rw length-tab (f .shape .vertices-le)) es

@@ -42,10 +42,14 @@ module _ {a n : ℕ} {ws : List ℕ} {i : ℕ} {s : List ℕ} (st : Stored a (re
   pub zeros-end : n ≤ i → s ≡ overAt a (replicate n 0) ws
   zeros-end h = stored-end st (rw length-replicate h)
 
+-- over as many words
+pub over-all : (xs ws : List ℕ) → length ws ≡ length xs → overAt 0 xs ws ≡ xs
+unfolding over overAt
+over-all xs ws e = rw (drop-of-length-le ws {i = length xs} (omega arith), append-nil)
+
 -- n words of 0 over n words
 pub zeros-all : (n : ℕ) (ws : List ℕ) → length ws ≡ n → overAt 0 (replicate n 0) ws ≡ replicate n 0
-unfolding over overAt
-zeros-all n ws e = rw (length-replicate, drop-of-length-le ws {i = n} (omega arith), append-nil)
+zeros-all n ws e = over-all (replicate n 0) ws (e ∙ sym (length-replicate n 0))
 
 -- for `search`: the count, the members, and 0 in the words behind them
 pub members-stored : (ms ws : List ℕ) (j : ℕ) (B exit : List ℕ) → length ws ≡ size limit → j < hyperedgeLimit → length ms ≤ limit

@@ -38,9 +38,13 @@ updateHyperedge x ms t = record {
   hyperedges = map (withMembers x ms) (t .hyperedges);
 }
 
+-- the list with the members that p keeps
+abbrev pub keeping : (ℕ → Bool) → Hyperedge → Hyperedge
+keeping p e = record { number = e .number; weight = e .weight; members = filter p (e .members) }
+
 -- the list without v
 unfoldable pub without : ℕ → Hyperedge → Hyperedge
-without v e = record { number = e .number; weight = e .weight; members = filter (otherThan itself v) (e .members) }
+without v e = keeping (otherThan itself v) e
 
 -- the list is not empty
 unfoldable pub hasMembers : Hyperedge → Bool

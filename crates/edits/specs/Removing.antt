@@ -1,21 +1,28 @@
--- The steps of removing a vertex: the lists without it, and the records without its own. Assumes nothing.
+-- The steps of removing vertices: the lists without them, and the records without their own. Assumes nothing.
+use mathlib.Core.Bool.{Bool}
 use mathlib.Core.List.{List, map, _++_}
 use Prim.Native.Nat.{ℕ, _*_, _-_}
-use lib.ListN.{set, take, drop}
-use Rattle.lists.specs.Lists.{filter, otherThan, tab, itself}
+use lib.ListN.{length, set, take, drop}
+use Rattle.lists.specs.Lists.{filter, otherThan, tab, itself, flat, pad}
 use Rattle.lists.specs.Inner.{shifted}
-use Rattle.layout.specs.Content.{Hyperedge, Table}
-use Rattle.layout.specs.Layout.{vertexLimit, vertexSize, verticesAt, hyperedgesAt, hyperedgeAt}
-use Rattle.edits.specs.Edits.{without, hasMembers}
+use Rattle.layout.specs.Content.{Vertex, Hyperedge, Table}
+use Rattle.layout.specs.Layout.{vertexLimit, vertexSize, verticesAt, hyperedgesAt, hyperedgeAt, vertexWords}
+use Rattle.edits.specs.Edits.{keeping, hasMembers}
 use Rattle.edits.specs.Rewriting.{Rewritten}
 
+-- every list with the members that p keeps, and those that are emptied dropped
+unfoldable pub sifted : (ℕ → Bool) → List Hyperedge → List Hyperedge
+sifted p es = filter hasMembers (map (keeping p) es)
+
+-- ---- one vertex
+
 -- the words other than v
-unfoldable pub otherWords : ℕ → List ℕ → List ℕ
+abbrev pub otherWords : ℕ → List ℕ → List ℕ
 otherWords v xs = filter (otherThan itself v) xs
 
 -- every list without v, and those that held it alone dropped
-unfoldable pub stripped : ℕ → List Hyperedge → List Hyperedge
-stripped v es = filter hasMembers (map (without v) es)
+abbrev pub stripped : ℕ → List Hyperedge → List Hyperedge
+stripped v es = sifted (otherThan itself v) es
 
 -- the same of a table
 unfoldable pub stripVertex : ℕ → Table → Table
@@ -36,3 +43,10 @@ vertexTakenOut i n ws =
     set (take verticesAt ws
     ++ (shifted (take (vertexLimit * vertexSize) (drop verticesAt ws)) (i * vertexSize) vertexSize
     ++ drop hyperedgesAt ws)) 2 (n - 1)
+
+-- ---- the vertices that are left
+
+-- vs as the vertex records, and counted
+abbrev pub withVertices : List Vertex → List ℕ → List ℕ
+withVertices vs ws =
+    set (take verticesAt ws ++ (pad (vertexLimit * vertexSize) (flat vertexWords vs) ++ drop hyperedgesAt ws)) 2 (length vs)

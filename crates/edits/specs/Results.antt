@@ -1,11 +1,13 @@
 -- What each edit answers and leaves, in the order of its refusals; 1 comes before all by `onFormed`. Assumes nothing.
 use mathlib.Core.Bool.{Bool, cond, _||_}
 use mathlib.Core.List.{List, [], _∷_}
-use Prim.Native.Nat.{ℕ}
+use Prim.Native.Nat.{ℕ, zero, suc}
 use lib.Dec.{eqb, leb, ltb}
 use lib.ListN.{length, replicate}
 use Rattle.lists.specs.Tests.{_and_, bit}
 use Rattle.lists.specs.Lists.{sameList}
+use Rattle.layout.specs.declared.Found.{Found}
+use Rattle.layout.specs.declared.Found.the-variants.{At, Nothing}
 use Rattle.layout.specs.declared.Answer.{Answer}
 use Rattle.layout.specs.declared.Answer.the-variants.{Done, NotWellFormed, NoMembers, SameMembers, TooManyMembers, Full, NumbersSpent, SameVertex, SideBySide, EqualNeighbours}
 use Rattle.layout.specs.Content.{Hyperedge, Table}
@@ -22,6 +24,14 @@ lastNumber = 4294967295
 unfoldable pub onFirst : {A : Type 0} → (A → Bool) → (A → Answer) → List A → List ℕ → Result → Result
 onFirst p answer [] lent r = r
 onFirst p answer (x ∷ xs) lent r = cond (p x) (result (answer x) lent) (onFirst p answer xs lent r)
+
+-- the place of the first of a list that passes the test, counted from i
+unfoldable pub firstPassingFrom : {A : Type 0} → (A → Bool) → ℕ → List A → Found
+firstPassingFrom p i [] = Nothing
+firstPassingFrom p i (x ∷ xs) = cond (p x) (At i) (firstPassingFrom p (suc i) xs)
+
+unfoldable pub firstPassing : {A : Type 0} → (A → Bool) → List A → Found
+firstPassing p xs = firstPassingFrom p zero xs
 
 -- a hyperedge gives the answer of its number; they ascend, so the first is the lowest
 abbrev pub byNumber : (ℕ → Answer) → Hyperedge → Answer

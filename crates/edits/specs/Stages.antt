@@ -1,11 +1,8 @@
 -- What is left to answer of an edit after its first refusals. Assumes nothing.
 use mathlib.Core.Path.{_≡_}
-use mathlib.Core.Bool.{Bool, cond}
-use mathlib.Core.List.{List, [], _∷_}
-use Prim.Native.Nat.{ℕ, zero, suc, _≤_, _<_}
+use mathlib.Core.List.{List}
+use Prim.Native.Nat.{ℕ, _≤_, _<_}
 use lib.ListN.{length}
-use Rattle.layout.specs.declared.Found.{Found}
-use Rattle.layout.specs.declared.Found.the-variants.{At, Nothing}
 use Rattle.layout.specs.declared.Answer.the-variants.{Done}
 use Rattle.layout.specs.Content.{Table}
 use Rattle.layout.specs.Layout.{limit, hyperedgeLimit, words}
@@ -33,14 +30,6 @@ pub record JudgedBy (j : Judgement) (ms : List ℕ) (d : ℕ) (t : Table) : Type
   pub says : (lent : List ℕ) (r : Result) → orElse j lent r ≡ onMembers ms d t lent r
   pub some : j ≡ Fine → 0 < length ms
   pub short : j ≡ Fine → length ms ≤ limit
-
--- the place of the first of a list that passes the test, counted from i
-unfoldable pub firstPassingFrom : {A : Type 0} → (A → Bool) → ℕ → List A → Found
-firstPassingFrom p i [] = Nothing
-firstPassingFrom p i (x ∷ xs) = cond (p x) (At i) (firstPassingFrom p (suc i) xs)
-
-unfoldable pub firstPassing : {A : Type 0} → (A → Bool) → List A → Found
-firstPassing p xs = firstPassingFrom p zero xs
 
 -- add_hyperedge, where no hyperedge is identical: 7, 8
 unfoldable pub addNewResult : List ℕ → ℕ → List ℕ → Table → Result

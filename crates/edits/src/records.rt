@@ -1,7 +1,7 @@
 // What the edits store in a table's words.
 ghost use mathlib.Core.Path.{_≡_};
 ghost use Prim.Native.Nat.{_+_, _≤_, _<_};
-ghost use lib.ListN.{length, replicate};
+ghost use lib.ListN.{length, set, replicate};
 ghost use Rattle.layout.specs.Layout.{limit, hyperedgeLimit, size, hyperedgeWord};
 ghost use Rattle.lists.specs.Inner.{overAt};
 ghost use Rattle.edits.specs.Records.{memberWords};
@@ -10,7 +10,7 @@ ghost use Rattle.edits.specs.Records.{memberWords};
 pub const LAST_NUMBER: u32 = 4294967295;
 
 // Stores the list from word a on.
-fn store(t: &mut [u32], a: usize, list: &[u32])
+pub fn store(t: &mut [u32], a: usize, list: &[u32])
     requires { ⌜ a + length (now list) ≤ length (now t) ⌝ }
     ensures { λ _. ⌜ now (t .exit) ≡ overAt a (now (list .entry)) (now (t .entry)) ⌝ }
 {
@@ -43,4 +43,14 @@ pub fn put_members(t: &mut [u32], j: usize, members: &[u32])
     t[a] = n as u32;
     store(t, a + 1, members);
     store_zeros(t, a + 1 + n, layout::MEMBER_LIMIT - n);
+}
+
+// Stores the first three words of a record.
+pub fn put_head(t: &mut [u32], a: usize, x: u32, w: u32, c: usize)
+    requires { ⌜ (a + 3 ≤ length (now t)) × (c ≤ limit) ⌝ }
+    ensures { λ _. ⌜ now (t .exit) ≡ set (set (set (now (t .entry)) a x) (a + 1) w) (a + 2) c ⌝ }
+{
+    t[a] = x;
+    t[a + 1] = w;
+    t[a + 2] = c as u32;
 }

@@ -1,4 +1,5 @@
--- The test of a table, words stored and moved, and lists of members: any two results that keep the promise on the same input agree. Assumes nothing.
+-- The test of a table, words stored and moved, records of a tray, and lists of members: any two results that keep the promise on the same input
+-- agree. Assumes nothing.
 use mathlib.Core.Path.{_≡_, refl, sym, ap, _∙_}
 use mathlib.Core.List.{[], _∷_}
 use native.Mathlib.Omega.{arith}
@@ -35,6 +36,10 @@ use Rattle.rename_vertex.proofs.rename_vertex.Kinds as rename-vertex
 use Rattle.rename_vertex.proofs.rename_vertex.Reads as rename-vertex-reads
 use Rattle.strip_vertex.proofs.strip_vertex.Kinds as strip-vertex
 use Rattle.strip_vertex.proofs.strip_vertex.Reads as strip-vertex-reads
+use Rattle.tray_marks.proofs.open_tray.Kinds as open-tray
+use Rattle.tray_marks.proofs.open_tray.Reads as open-tray-reads
+use Rattle.tray_marks.proofs.judge_record.Kinds as judge-record
+use Rattle.tray_marks.proofs.judge_record.Reads as judge-record-reads
 use Rattle.side_by_side.proofs.find_side_by_side.Kinds as find-side-by-side
 use Rattle.side_by_side.proofs.find_side_by_side.Reads as find-side-by-side-reads
 use Rattle.member_lists.proofs.judge_members.Kinds as judge-members
@@ -81,6 +86,14 @@ strip-vertex-agrees κs args a b x y p q = (refl, p ∙ sym q)
 
 pub rename-vertex-agrees : Agrees 1 rename-vertex.ps rename-vertex.r rename-vertex-reads.Post (λ _ x. now (x .0))
 rename-vertex-agrees κs args a b x y p q = (refl, p ∙ sym q)
+
+-- ---- the records of a tray
+
+pub open-tray-agrees : Agrees 1 open-tray.ps open-tray.r open-tray-reads.Post (λ _ _. [])
+open-tray-agrees κs args a b x y p q = (p ∙ sym q, refl)
+
+pub judge-record-agrees : Agrees 1 judge-record.ps judge-record.r judge-record-reads.Post (λ _ _. [])
+judge-record-agrees κs args a b x y p q = (p ∙ sym q, refl)
 
 -- ---- a list of members
 

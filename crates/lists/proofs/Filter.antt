@@ -26,12 +26,12 @@ filter-snoc {A} p (y ∷ ys) x = more (p y) (p x) (filter-snoc p ys x)
     more false false e = e
 
 -- those of f 0, f 1, .. that pass are f of the places that pass
-pub filter-tab : (p q : ℕ → Bool) (f : ℕ → ℕ) (n : ℕ) → ((k : ℕ) → k < n → q k ≡ p (f k)) → map f (chosen q n) ≡ filter p (tab f n)
+pub filter-tab : {A : Type 0} (p : A → Bool) (q : ℕ → Bool) (f : ℕ → A) (n : ℕ) → ((k : ℕ) → k < n → q k ≡ p (f k)) → map f (chosen q n) ≡ filter p (tab f n)
 unfolding filter tab chosen
 filter-tab p q f zero h = refl
-filter-tab p q f (suc n) h =
+filter-tab {A} p q f (suc n) h =
     on (q n)
-    (λ e. first true e ∙ map-snoc f (chosen q n) n ∙ ap (λ (r : List ℕ). r ++ (f n ∷ [])) (filter-tab p q f n (λ k l. h k (omega arith))) ∙ sym (last true e))
+    (λ e. first true e ∙ map-snoc f (chosen q n) n ∙ ap (λ (r : List A). r ++ (f n ∷ [])) (filter-tab p q f n (λ k l. h k (omega arith))) ∙ sym (last true e))
     (λ e. first false e ∙ filter-tab p q f n (λ k l. h k (omega arith)) ∙ sym (last false e))
   where
     first : (b : Bool) → q n ≡ b → map f (chosen q (suc n)) ≡ map f (cond b (chosen q n ++ (n ∷ [])) (chosen q n))

@@ -9,7 +9,7 @@ use Rattle.layout.specs.declared.Found.{Found}
 use Rattle.layout.specs.declared.Found.the-variants.{At, Nothing}
 use Rattle.layout.specs.Steps.{stepsOf, sameEnds}
 use Rattle.layout.proofs.Steps.{steps-more, steps-end}
-use Rattle.edits.specs.Stages.{firstPassingFrom}
+use Rattle.edits.specs.Results.{firstPassingFrom}
 
 -- the steps of `drop i ms` are left
 module _ (ms : List ℕ) (i : ℕ) (whole : Found) (inv : firstPassingFrom sameEnds i (stepsOf (drop i ms)) ≡ whole) where

@@ -17,8 +17,8 @@ use Rattle.layout.proofs.Back.{formed-holdable}
 use Rattle.layout.proofs.Answers.{on-missing, on-found}
 use Rattle.edits.specs.Edits.{renamed, renameVertex}
 use Rattle.edits.specs.Removing.{vertexTakenOut}
-use Rattle.edits.specs.Results.{onOther, sideBySide, sideBySideIn, mergeResult}
-use Rattle.edits.specs.Stages.{firstPassing, mergeLiveResult, mergeIntoResult}
+use Rattle.edits.specs.Results.{onOther, sideBySide, sideBySideIn, mergeResult, firstPassing}
+use Rattle.edits.specs.Stages.{mergeLiveResult, mergeIntoResult}
 use Rattle.edits.proofs.Passing.{passing-within, on-passing, on-none-passing}
 use Rattle.edits.proofs.Merged.{merge-is}
 use Rattle.edits.proofs.Dropped.{vertex-dropped}

@@ -19,8 +19,7 @@ use Rattle.layout.proofs.Answers.{formed-result}
 use Rattle.layout.proofs.Back.{read-words, words-formed}
 use Rattle.layout.proofs.Holdable.{Holdable, holdable-of}
 use Rattle.edits.specs.Edits.{without, hasMembers, removeVertex}
-use Rattle.edits.specs.Results.{removeVertexResult}
-use Rattle.edits.specs.Stages.{firstPassingFrom, firstPassing}
+use Rattle.edits.specs.Results.{removeVertexResult, firstPassingFrom, firstPassing}
 use Rattle.removals.specs.Removals.{vertex, removal, isVertex, isHyperedge, staysVertex, staysHyperedge, keptVertex, keptHyperedge, thinned, withdrawn}
 use Rattle.trays.specs.declared.Withdrawal.{Withdrawal}
 use Rattle.trays.specs.Trays.{namesLive, isFaulty, asked, trayResult, tray}

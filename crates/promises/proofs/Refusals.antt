@@ -18,8 +18,7 @@ use Rattle.layout.specs.Layout.{limit, read}
 use Rattle.layout.specs.WellFormed.{wellFormed}
 use Rattle.layout.specs.Steps.{stepsOf, sameEnds}
 use Rattle.layout.specs.Answers.{Result, result, onFormed, onLive, fits, listed}
-use Rattle.edits.specs.Results.{hasSome, onSome, isShort, onShort, hasRoom, onRoom, isSpent, onNumber, onFirst, byNumber, onNew, equalsOld, onChanged, identical, isSame, onOther, sideBySide, sideBySideIn, onApart, twiceInARow, onUnequal}
-use Rattle.edits.specs.Stages.{firstPassingFrom}
+use Rattle.edits.specs.Results.{hasSome, onSome, isShort, onShort, hasRoom, onRoom, isSpent, onNumber, onFirst, byNumber, onNew, equalsOld, onChanged, identical, isSame, onOther, sideBySide, sideBySideIn, onApart, twiceInARow, onUnequal, firstPassingFrom}
 use Rattle.trays.specs.declared.Withdrawal.{Withdrawal}
 use Rattle.trays.specs.Trays.{isFaulty, onFaultless}
 use Rattle.lookups.specs.Results.{isFew, onSeveral}

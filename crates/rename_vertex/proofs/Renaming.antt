@@ -23,7 +23,8 @@ use Rattle.edits.specs.Edits.{readAs, renamed, renameVertex}
 use Rattle.edits.specs.Rewriting.{Rewritten}
 use Rattle.edits.proofs.Copied.{Copied, copied-more, copied-read, copied-all}
 use Rattle.edits.proofs.Merged.{read-gone, read-other}
-use Rattle.edits.proofs.Rewritten.{record-stored, take-before, rewritten-none, record-inside, word-same, record-same, count-same, rewritten-more, rewritten-done}
+use Rattle.edits.proofs.Relaid.{take-before}
+use Rattle.edits.proofs.Rewritten.{record-stored, rewritten-none, record-inside, word-same, record-same, count-same, rewritten-more, rewritten-done}
 
 -- ---- words
 

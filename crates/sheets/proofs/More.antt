@@ -17,8 +17,7 @@ use Rattle.distance.specs.Computed.{lexLe, ahead, better, onward, bestOver, sta
 use Rattle.components.specs.Classes.{rooted, rootsFrom, classes}
 use Rattle.steps.specs.Matrices.{undirected, listsBoth, together}
 use Rattle.edits.specs.Edits.{without, hasMembers, removeVertex, readAs, renamed, renameVertex, mergeVertices}
-use Rattle.edits.specs.Results.{onSome, onShort, onNumber, onRoom, identical, addHyperedgeResult, updateResult, removeVertexResult, onFirst, onOther, sideBySide, mergeResult}
-use Rattle.edits.specs.Stages.{firstPassingFrom, firstPassing}
+use Rattle.edits.specs.Results.{onSome, onShort, onNumber, onRoom, identical, addHyperedgeResult, updateResult, removeVertexResult, onFirst, onOther, sideBySide, mergeResult, firstPassingFrom, firstPassing}
 use Rattle.removals.specs.Removals.{isVertex, isHyperedge, staysVertex, staysHyperedge, keptVertex, keptHyperedge, thinned, withdrawn}
 use Rattle.trays.specs.Trays.{namesLive, isFaulty, asked as removalAsked, trayResult}
 use Rattle.lookups.specs.Lookups.{coMember, relates, isRelated, related, isMemberOf, hasMember, isShared, shared, hasEnd, places, placesIn, degree, held, block, listing, connecting, adjacentEntry, fullAdjacent, weighs, verticesWeighing}

@@ -4,8 +4,7 @@ ghost use Prim.Native.Nat.{_<_};
 ghost use Rattle.layout.specs.Layout.{limit, hyperedgeCount, hyperedgeAt, readHyperedges};
 ghost use Rattle.layout.specs.Inner.{Formed};
 ghost use Rattle.lookups.specs.Lookups.{places};
-ghost use Rattle.edits.specs.Results.{sideBySide};
-ghost use Rattle.edits.specs.Stages.{firstPassing};
+ghost use Rattle.edits.specs.Results.{sideBySide, firstPassing};
 ghost use Rattle.side_by_side.specs.Places.{stepOf, joins};
 use layout::Found;
 

@@ -1,7 +1,7 @@
 // A vertex taken out of every list, and emptied lists dropped.
 ghost use mathlib.Core.Path.{_≡_};
 ghost use Prim.Native.Nat.{_+_, _<_, _≤_};
-ghost use lib.ListN.{length, set, take, drop};
+ghost use lib.ListN.{length, take, drop};
 ghost use lib.Dec.{ltb};
 ghost use lib.Seq.{paste};
 ghost use Rattle.lists.specs.Tests.{bit};
@@ -9,6 +9,7 @@ ghost use Rattle.layout.specs.Layout.{limit, hyperedgeLimit, recordSize, size, 
 ghost use Rattle.layout.specs.Inner.{Formed};
 ghost use Rattle.edits.specs.Edits.{without};
 ghost use Rattle.edits.specs.Removing.{otherWords, Stripped, stripVertex};
+use edits::records::put_head;
 use edits::shift::clear_words;
 
 // Moves those of the n words from `from` on that are not v to `to` on, and says how many.
@@ -27,16 +28,6 @@ fn keep_others(t: &mut [u32], from: usize, to: usize, n: usize, v: u32) -> usize
         i += 1;
     }
     c
-}
-
-// Stores the first three words of a record.
-fn put_head(t: &mut [u32], a: usize, x: u32, w: u32, c: usize)
-    requires { ⌜ (a + 3 ≤ length (now t)) × (c ≤ limit) ⌝ }
-    ensures { λ _. ⌜ now (t .exit) ≡ set (set (set (now (t .entry)) a x) (a + 1) w) (a + 2) c ⌝ }
-{
-    t[a] = x;
-    t[a + 1] = w;
-    t[a + 2] = c as u32;
 }
 
 // Writes record j without v to record k's place, and says how many members are left.

@@ -11,7 +11,7 @@ use Rattle.lists.specs.Lists.{all, any}
 use Rattle.lists.proofs.Cases.{on, clash, and-left, and-right, and-both}
 use Rattle.layout.specs.declared.Found.the-variants.{At, Nothing}
 use Rattle.layout.specs.Content.{Table}
-use Rattle.edits.specs.Stages.{firstPassingFrom, firstPassing}
+use Rattle.edits.specs.Results.{firstPassingFrom, firstPassing}
 use Rattle.trays.specs.declared.Withdrawal.{Withdrawal}
 use Rattle.trays.specs.Trays.{namesLive, isFaulty}
 use Rattle.trays.specs.Outcomes.{noRecord, FirstFaulty}

@@ -9,7 +9,7 @@ use Rattle.layout.specs.declared.Answer.the-variants.{Done, BadRecord}
 use Rattle.layout.specs.Content.{Table, liveVertices, liveHyperedges, isLive}
 use Rattle.layout.specs.Layout.{limit, words}
 use Rattle.layout.specs.Answers.{Result, result, onFormed}
-use Rattle.edits.specs.Stages.{firstPassing}
+use Rattle.edits.specs.Results.{firstPassing}
 use Rattle.removals.specs.Removals.{Removal, vertex, hyperedge, withdrawn}
 use Rattle.trays.specs.declared.Withdrawal.{Withdrawal}
 

@@ -3,6 +3,7 @@ ghost use mathlib.Core.Path.{_≡_};
 ghost use mathlib.Core.List.{[]};
 ghost use Rattle.layout.specs.Answers.{onFormed};
 ghost use Rattle.edits.specs.Results.{addVertexResult, addHyperedgeResult, updateResult, removeVertexResult, mergeResult, removeHyperedgeResult, clearResult, emptyResult};
+ghost use Rattle.trays.specs.Trays.{trayResult};
 ghost use Rattle.vaultsorrel.specs.Replies.{replied};
 ghost use Rattle.lookups.specs.Results.{relatedResult, fullAdjacentResult, degreeResult, connectingResult, intersectionsResult, weighingResult, fullHyperedgesResult, containsResult, vertexIndexResult};
 ghost use Rattle.lookups.specs.declared.Direction.the-variants.{From, To};
@@ -21,6 +22,7 @@ ghost use Rattle.frames.specs.Reading.{readResult};
 use layout::HyperedgeIndex;
 use layout::Reply;
 use layout::VertexIndex;
+use trays::Withdrawal;
 
 // ---- Edits
 
@@ -72,6 +74,14 @@ pub extern "C" fn vs_remove_hyperedge(t: &mut [u32], e: HyperedgeIndex) -> Reply
     ensures { λ r. ⌜ replied r (now (t .exit)) ≡ onFormed (now (t .entry)) (now (t .entry)) (removeHyperedgeResult (e .0) (now (t .entry))) ⌝ }
 {
     layout::reply_of(remove_hyperedge::remove_hyperedge(t, e))
+}
+
+// Withdraws every vertex and hyperedge that the records name, or none.
+#[no_mangle]
+pub extern "C" fn vs_withdraw_tray(t: &mut [u32], records: &[Withdrawal]) -> Reply
+    ensures { λ r. ⌜ replied r (now (t .exit)) ≡ onFormed (now (t .entry)) (now (t .entry)) (trayResult (now (records .entry)) (now (t .entry))) ⌝ }
+{
+    layout::reply_of(withdraw_tray::withdraw_tray(t, records))
 }
 
 // Zeroes every word.

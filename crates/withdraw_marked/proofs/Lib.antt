@@ -1,0 +1,2 @@
+pub mod Spared
+pub mod Sifting

@@ -1,1 +1,2 @@
 pub mod Sparing
+pub mod Sifting

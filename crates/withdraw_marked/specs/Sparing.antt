@@ -1,12 +1,12 @@
 -- A table without the records that have a mark. Assumes nothing.
 use mathlib.Core.Bool.{Bool, false, not}
-use mathlib.Core.List.{List, map}
+use mathlib.Core.List.{List}
 use Prim.Native.Nat.{ℕ}
 use Rattle.lists.specs.Lists.{filter}
 use Rattle.layout.specs.declared.Found.{Found}
 use Rattle.layout.specs.declared.Found.the-variants.{At, Nothing}
 use Rattle.layout.specs.Content.{Vertex, Hyperedge, Table, liveVertices, liveHyperedges, position}
-use Rattle.edits.specs.Edits.{hasMembers}
+use Rattle.edits.specs.Removing.{sifted}
 use Rattle.marks.specs.Marks.{isMarked}
 
 -- a mark at the place that a search found
@@ -26,17 +26,13 @@ module _ (p h : ℕ → Bool) where
   unfoldable pub sparedHyperedge : Hyperedge → Bool
   sparedHyperedge e = h (e .number)
 
-  -- the hyperedge, its list with the members that p spares
-  unfoldable pub sparing : Hyperedge → Hyperedge
-  sparing e = record { number = e .number; weight = e .weight; members = filter p (e .members) }
-
-  -- what is spared of a table; emptied lists are dropped
+  -- what is spared of a table: of each list the members that p spares; emptied lists are dropped
   unfoldable pub sparedOf : Table → Table
   sparedOf t = record {
     nextVertex = t .nextVertex;
     nextHyperedge = t .nextHyperedge;
     vertices = filter sparedVertex (t .vertices);
-    hyperedges = filter hasMembers (map sparing (filter sparedHyperedge (t .hyperedges)));
+    hyperedges = sifted p (filter sparedHyperedge (t .hyperedges));
   }
 
 -- the table without what is marked

@@ -4,7 +4,7 @@ use Prim.Native.Nat.{_≤_, _-_}
 use native.Mathlib.Omega.{arith}
 use lib.ListN.{length, drop}
 use Rattle.layout.specs.Steps.{stepsOf, sameEnds}
-use Rattle.edits.specs.Stages.{firstPassing, firstPassingFrom}
+use Rattle.edits.specs.Results.{firstPassing, firstPassingFrom}
 use borrow.Author.Needs.{needs}
 use Rattle.member_lists.proofs.Neighbours.{equal-here, unequal-here, none-left}
 use Rattle.member_lists.proofs.first_equal_neighbour.Statement.{statement}

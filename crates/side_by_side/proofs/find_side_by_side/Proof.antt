@@ -3,8 +3,7 @@ use mathlib.Core.Path.{_≡_, refl}
 use Prim.Native.Nat.{_≤_, _-_}
 use lib.ListN.{drop}
 use Rattle.layout.specs.Layout.{limit, hyperedgeCount, readHyperedges}
-use Rattle.edits.specs.Results.{sideBySide}
-use Rattle.edits.specs.Stages.{firstPassing, firstPassingFrom}
+use Rattle.edits.specs.Results.{sideBySide, firstPassing, firstPassingFrom}
 use Rattle.edits.proofs.Passing.{passing-on, passing-here, passing-none}
 use borrow.Author.Needs.{needs}
 use Rattle.side_by_side.proofs.find_side_by_side.Statement.{statement}

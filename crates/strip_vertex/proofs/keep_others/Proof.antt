@@ -5,12 +5,13 @@ use lib.ListN.{length, take, drop, length-take, length-drop}
 use lib.Seq.{length-take-le}
 use native.Mathlib.Omega.{arith}
 use borrow.Author.Needs.{needs}
-use Rattle.edits.proofs.OthersKept.{Kept, kept-none, kept-yes, kept-no, kept-end, kept-read}
+use Rattle.lists.specs.Lists.{otherThan, itself}
+use Rattle.edits.proofs.KeptWords.{Kept, other-yes, other-no, kept-none, kept-yes, kept-no, kept-end, kept-read}
 use Rattle.strip_vertex.proofs.keep_others.Statement.{statement}
 use Rattle.strip_vertex.proofs.keep_others.Tie as tie
 
 abbrev Inv-loop : tie.InvT-loop
-Inv-loop t₀ from to n v c₀ i₀ t c i = (i ≤ n) × Kept v (take n (drop from t₀)) t₀ to i c t
+Inv-loop t₀ from to n v c₀ i₀ t c i = (i ≤ n) × Kept (otherThan itself v) (take n (drop from t₀)) t₀ to i c t
 
 abbrev μ-loop : tie.MeasureT-loop
 μ-loop t₀ from to n v c₀ i₀ t c i = n - i
@@ -57,13 +58,14 @@ loop-again : tie.Need-loop-again Inv-loop μ-loop
 loop-again c =
     let l = c .before .before .before in let a = l .before .args in
     let k = l .loop .inv .1 in
+    let p = otherThan itself (a .v) in
     let ms = take (a .n) (drop (a .from) (a .t .now)) in
     let h : l .loop .i < length ms = rw (length-take-le (a .n) (drop (a .from) (a .t .now)) (rw length-drop (omega arith))) (omega arith) in
-    let e = kept-read (a .v) (a .from) (a .n) (a .t .now) (a .to) (l .loop .i) (l .loop .c) (l .loop .t) k (omega arith) (omega arith) (omega arith) in (
+    let e = kept-read p (a .from) (a .n) (a .t .now) (a .to) (l .loop .i) (l .loop .c) (l .loop .t) k (omega arith) (omega arith) (omega arith) in (
       omega arith,
       ⊎-elim
-          (λ w. kept-yes (a .v) ms (a .t .now) (a .to) (l .loop .i) (l .loop .c) (l .loop .t) k _ _ _ h (omega (arith, k .behind)) e (w .0 .taken) (w .2) (w .1))
-          (λ w. kept-no (a .v) ms (a .t .now) (a .to) (l .loop .i) (l .loop .c) (l .loop .t) k _ _ _ h e (w .0 .left) (w .2) (w .1))
+          (λ w. kept-yes p ms (a .t .now) (a .to) (l .loop .i) (l .loop .c) (l .loop .t) k _ _ _ h (omega (arith, k .behind)) e (other-yes (a .v) _ (w .0 .taken)) (w .2) (w .1))
+          (λ w. kept-no p ms (a .t .now) (a .to) (l .loop .i) (l .loop .c) (l .loop .t) k _ _ _ h e (other-no (a .v) _ (w .0 .left)) (w .2) (w .1))
           (c .if1 .came),
     )
 
@@ -73,7 +75,7 @@ same-length c = c .before .loop .inv .1 .copied .same
 returns : tie.Need-returns Inv-loop μ-loop
 returns c =
     let l = c .before in let a = l .before .args in
-    (omega (arith, l .loop .inv .1 .behind), kept-end (a .v) (take (a .n) (drop (a .from) (a .t .now))) (a .t .now) (a .to) (l .loop .i) (l .loop .c) (l .loop .t) (l .loop .inv .1) (rw length-take (omega arith)))
+    (omega (arith, l .loop .inv .1 .behind), kept-end (otherThan itself (a .v)) (take (a .n) (drop (a .from) (a .t .now))) (a .t .now) (a .to) (l .loop .i) (l .loop .c) (l .loop .t) (l .loop .inv .1) (rw length-take (omega arith)))
 
 pub keep-others-spec : {M : Type 1} → statement M
 keep-others-spec =

@@ -1,6 +1,8 @@
 -- `strip_vertex::strip_record` meets its contract. Assumes nothing.
 use denote.Ref.{now}
-use Rattle.edits.proofs.Stripped.{record-stripped}
+use Rattle.lists.specs.Lists.{otherThan, itself}
+use Rattle.edits.specs.Edits.{without}
+use Rattle.edits.proofs.Sifted.{record-sifted}
 use borrow.Author.Needs.{needs}
 use Rattle.strip_vertex.proofs.strip_record.Statement.{statement}
 use Rattle.strip_vertex.proofs.strip_record.Tie as tie
@@ -63,12 +65,13 @@ same-length : tie.Need-same-length
 same-length c = search needs
 
 returns : tie.Need-returns
+unfolding without
 returns c =
     let h = c .before .before in let z = h .before .before .before .before in let o = z .before .before .before .before in
     let n = o .before .before .before .before in let s = n .before .before .before in
-    record-stripped (s .args .v) (now (s .args .t)) (s .args .j) (s .args .k) (n .member-count .result) (o .keep-others .result)
+    record-sifted (otherThan itself (s .args .v)) (now (s .args .t)) (now (s .args .t)) (s .args .j) (s .args .k) (n .member-count .result) (o .keep-others .result)
     (o .keep-others .last .0) (z .clear-words .last .0) (h .put-head .last .0)
-    (s .pre .0) (s .pre .1 .0) (s .pre .1 .1 .0) (s .pre .1 .1 .1) (n .member-count .ensures)
+    (s .pre .0) (search needs) (s .pre .1 .1 .1) (n .member-count .ensures)
     (o .keep-others .ensures .0) (o .keep-others .ensures .1 .0) (o .keep-others .ensures .1 .1) (z .clear-words .ensures) (h .put-head .ensures)
 
 pub strip-record-spec : {M : Type 1} → statement M

@@ -1,9 +1,9 @@
--- `strip_vertex::put_head` meets its contract. Assumes nothing.
+-- `edits::records::put_head` meets its contract. Assumes nothing.
 use lib.ListN.{length-set}
 use native.Mathlib.Omega.{arith}
 use borrow.Author.Needs.{needs}
-use Rattle.strip_vertex.proofs.put_head.Statement.{statement}
-use Rattle.strip_vertex.proofs.put_head.Tie as tie
+use Rattle.edits.proofs.records.put_head.Statement.{statement}
+use Rattle.edits.proofs.records.put_head.Tie as tie
 
 mul-t : tie.Need-mul-t
 mul-t c = search needs
