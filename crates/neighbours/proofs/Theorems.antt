@@ -42,12 +42,12 @@ all-keep (c ∷ cs) ws u q =
     all-keep cs (call c ws .lent) (call-keeps ws u c (or-false-left (mayBring c) (any mayBring cs) q)) (or-false-right (mayBring c) (any mayBring cs) q)
 
 module _ (cs : List Call) (ws : List ℕ) (formed : wellFormed limit ws ≡ true) (none : NoneTwice ws) where
-  -- calls of which none removes a vertex or reads a text, refused ones among them
+  -- calls of which none removes a vertex, alone or in a tray, or reads a text, refused ones among them
   pub calls-keep : any mayBring cs ≡ false → LeavesNoneTwice cs ws
   calls-keep q =
       let u : Unequal (afterCalls cs ws) = all-keep cs ws (record { formed = formed; none-twice = none }) q in
       record { formed = u .formed; none-twice = u .none-twice; no-self-step = no-self-step (read limit (afterCalls cs ws)) (u .none-twice) }
 
-  -- where some list has two equal neighbours after any calls, one of them removes a vertex or reads a text
+  -- where some list has two equal neighbours after any calls, one of them removes a vertex, alone or in a tray, or reads a text
   pub removals-or-texts : SomeTwice (afterCalls cs ws) → any mayBring cs ≡ true
   removals-or-texts s = on (any mayBring cs) (λ q. q) (λ q. clash (calls-keep q .none-twice) s)

@@ -54,22 +54,22 @@ module _ (ws : List ℕ) (formed : wellFormed limit ws ≡ true) where
   unfolding tray
   tray-is rs = formed-result ws ws (trayResult rs ws) formed
 
-  -- what is left to do where no record is faulty
-  abbrev carriedOut : List Withdrawal → Result
-  carriedOut rs = result (Done 0) (words limit (withdrawn (map asked rs) (read limit ws)))
+  -- done, with the words of the closed form
+  abbrev closedForm : List Withdrawal → Result
+  closedForm rs = result (Done 0) (words limit (withdrawn (map asked rs) (read limit ws)))
 
   -- where every record names what is live in the table as it stood at the start, the end is that of one removal after the other
   pub live-accepted : (rs : List Withdrawal) → allLive rs ws ≡ true → tray rs ws ≡ result (Done 0) (removeAll (map asked rs) ws)
   unfolding allLive trayResult
   live-accepted rs l =
-      let done : trayResult rs ws (read limit ws) ≡ carriedOut rs = ap (λ (f : Found). onFaultless f ws (carriedOut rs)) (none-faulty (read limit ws) rs l) in
+      let done : trayResult rs ws (read limit ws) ≡ closedForm rs = ap (λ (f : Found). onFaultless f ws (closedForm rs)) (none-faulty (read limit ws) rs l) in
       tray-is rs ∙ done ∙ ap (λ (s : List ℕ). result (Done 0) s) (sym (removals-words ws formed (map asked rs)))
 
   -- where record i, counted from 0, is the first faulty one, 15 names i, and nothing changes
   pub faulty-refused : (i : ℕ) (rs : List Withdrawal) → FirstFaulty i rs (read limit ws) → tray rs ws ≡ result (BadRecord i) ws
   unfolding trayResult
   faulty-refused i rs h =
-      let refused : trayResult rs ws (read limit ws) ≡ result (BadRecord i) ws = ap (λ (f : Found). onFaultless f ws (carriedOut rs)) (found-faulty (read limit ws) i rs h) in
+      let refused : trayResult rs ws (read limit ws) ≡ result (BadRecord i) ws = ap (λ (f : Found). onFaultless f ws (closedForm rs)) (found-faulty (read limit ws) i rs h) in
       tray-is rs ∙ refused
 
   refused-at : (rs : List Withdrawal) → allLive rs ws ≡ false → (i : ℕ) × FirstFaulty i rs (read limit ws) × (tray rs ws ≡ result (BadRecord i) ws)
