@@ -51,7 +51,7 @@ module _ (L : ℕ) (p : ℕ → Bool) (ws : List ℕ) (es : List Hyperedge) (j k
   abbrev left : Hyperedge
   left = keeping p (hyperedgeAt L ws j)
 
-  pub left-le : length (left .members) ≤ L
+  left-le : length (left .members) ≤ L
   left-le = omega (arith, filter-length p (membersAt L ws j), members-le L ws f j h)
 
   whole : (b : Bool) → hasMembers left ≡ b → sifted p es′ ≡ cond b (sifted p es ++ (left ∷ [])) (sifted p es)

@@ -6,7 +6,6 @@ use Prim.Native.Nat.{ℕ, _+_, _-_, _≤_, _<_}
 use native.Mathlib.Omega.{arith}
 use lib.ListN.{length, set, replicate}
 use lib.Seq.{paste, paste-zero}
-use Rattle.lists.specs.Lists.{filter}
 use Rattle.lists.specs.Inner.{overAt}
 use Rattle.lists.proofs.Kept.{filter-length}
 use Rattle.lists.proofs.Tab.{length-tab}
@@ -25,7 +24,7 @@ use Rattle.marks.specs.Marks.{isMarked}
 use Rattle.sift_vertices.specs.Unmarked.{unmarked}
 use Rattle.sift_vertices.proofs.Unmarked.{unmarked-none, unmarked-in, unmarked-out}
 use Rattle.withdraw_marked.specs.Sparing.{spared, sparedOf, unmarkedOf}
-use Rattle.withdraw_marked.specs.Sifting.{memberSpared, hyperedgesLeft, HyperedgesSifted, siftedTable}
+use Rattle.withdraw_marked.specs.Sifting.{memberSpared, membersSpared, hyperedgesLeft, HyperedgesSifted, siftedTable}
 use Rattle.withdraw_marked.proofs.Spared.{vertices-spared, hyperedges-spared}
 
 -- ---- hyperedge records
@@ -45,23 +44,23 @@ module _ (vertices hyperedges : List Bool) (ws : List ℕ) where
       members-room = omega (arith, ap length em, members-le limit ws f j h, st .behind, st .same, f .shape .sized, f .shape .hyperedges-le)
 
       -- c is what `keep_spared` says, s₂ the words after it
-      module _ (c : ℕ) (ec : c ≡ length (filter (memberSpared vertices ws) ms)) where
+      module _ (c : ℕ) (ec : c ≡ length (membersSpared vertices ws ms)) where
         pub left-le : c ≤ limit
         left-le = omega (arith, filter-length (memberSpared vertices ws) ms, ap length em, members-le limit ws f j h)
 
-        module _ (m : isMarked hyperedges j ≡ false) (s₂ : List ℕ) (e₂ : s₂ ≡ paste s (hyperedgeWord limit k + 3) (filter (memberSpared vertices ws) ms) c) where
+        module _ (m : isMarked hyperedges j ≡ false) (s₂ : List ℕ) (e₂ : s₂ ≡ paste s (hyperedgeWord limit k + 3) (membersSpared vertices ws ms) c) where
           -- every member has a mark
           pub hyperedge-emptied : c ≡ 0 → HyperedgesSifted vertices hyperedges ws (j + 1) k s₂
           hyperedge-emptied z =
-              rw (e₂, z, ← paste-zero s (hyperedgeWord limit k + 3) (filter (memberSpared vertices ws) ms))
-              (sifted-emptied limit (memberSpared vertices ws) ws _ j k s f st h _ (unmarked-in (hyperedgeAt limit ws) hyperedges j m) c (ec ∙ ap (λ (l : List ℕ). length (filter (memberSpared vertices ws) l)) em) z)
+              rw (e₂, z, ← paste-zero s (hyperedgeWord limit k + 3) (membersSpared vertices ws ms))
+              (sifted-emptied limit (memberSpared vertices ws) ws _ j k s f st h _ (unmarked-in (hyperedgeAt limit ws) hyperedges j m) c (ec ∙ ap (λ (l : List ℕ). length (membersSpared vertices ws l)) em) z)
 
           -- some have none: s₃ the words after `end_record`
           pub hyperedge-kept : (x w : ℕ) (s₃ : List ℕ) → (c ≡ 0 → ⊥) → x ≡ hyperedgeAt limit ws j .number → w ≡ hyperedgeAt limit ws j .weight → s₃ ≡ recordEnded limit k x w c s₂
               → HyperedgesSifted vertices hyperedges ws (j + 1) (k + 1) s₃
           hyperedge-kept x w s₃ ne ex ew e₃ =
               let r = record-sifted (memberSpared vertices ws) ws s j k c _ s₂ s₃ (st .same ∙ f .shape .sized) (omega (arith, st .behind, f .shape .hyperedges-le)) left-le
-              (ap (filter (memberSpared vertices ws)) em) ec e₂ (e₃ ∙ ap₂ (λ (x w : ℕ). recordEnded limit k x w c s₂) ex ew) in
+              (ap (membersSpared vertices ws) em) ec e₂ (e₃ ∙ ap₂ (λ (x w : ℕ). recordEnded limit k x w c s₂) ex ew) in
               sifted-kept limit (memberSpared vertices ws) ws _ j k s f st h _ (unmarked-in (hyperedgeAt limit ws) hyperedges j m) c (r .0) ne s₃ (r .1)
 
   -- ---- at the end: s₂ the words after the rest is cleared, s₃ after the count is stored
@@ -81,9 +80,11 @@ module _ (vertices hyperedges : List Bool) (ws : List ℕ) where
 
 -- ---- both
 
--- the copy of the words is the words: d is what stood there before
-pub copy-same : (ws d old : List ℕ) → Formed limit ws → length d ≡ size limit → old ≡ overAt 0 ws d → ws ≡ old
-copy-same ws d old f l e = sym (e ∙ over-all ws d (l ∙ sym (f .shape .sized)))
+-- old is the copy of ws, d what stood there before
+pub copied : (ws d old : List ℕ) → Formed limit ws → length d ≡ size limit → old ≡ overAt 0 ws d → Formed limit old × (ws ≡ old)
+copied ws d old f l e =
+    let same : ws ≡ old = sym (e ∙ over-all ws d (l ∙ sym (f .shape .sized))) in
+    (rw same at f, same)
 
 -- ws₁ the words with the hyperedges that are left, ws₂ with the vertices too
 pub marked-withdrawn : (vertices hyperedges : List Bool) (ws old ws₁ ws₂ : List ℕ) → Formed limit ws → ws ≡ old → ws₁ ≡ words limit (siftedTable vertices hyperedges old)

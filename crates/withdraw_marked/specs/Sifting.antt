@@ -2,6 +2,7 @@
 use mathlib.Core.Bool.{Bool}
 use mathlib.Core.List.{List}
 use Prim.Native.Nat.{ℕ}
+use Rattle.lists.specs.Lists.{filter}
 use Rattle.layout.specs.Content.{Hyperedge, Table, liveVertices}
 use Rattle.layout.specs.Layout.{limit, hyperedgeCount, hyperedgeAt, nextVertexIn, nextHyperedgeIn, readVertices, read}
 use Rattle.edits.specs.Rewriting.{Rewritten}
@@ -12,6 +13,10 @@ use Rattle.withdraw_marked.specs.Sparing.{spared}
 -- the member has no mark, by the marks of the vertex records of ws
 abbrev pub memberSpared : List Bool → List ℕ → ℕ → Bool
 memberSpared marks ws x = spared marks (liveVertices (read limit ws)) x
+
+-- the members that have none
+abbrev pub membersSpared : List Bool → List ℕ → List ℕ → List ℕ
+membersSpared marks ws ms = filter (memberSpared marks ws) ms
 
 -- what is left of the first j hyperedges of ws
 abbrev pub hyperedgesLeft : List Bool → List Bool → List ℕ → ℕ → List Hyperedge

@@ -3,11 +3,10 @@ ghost use mathlib.Core.Path.{_≡_};
 ghost use Prim.Native.Nat.{_+_, _<_, _≤_};
 ghost use lib.ListN.{length};
 ghost use lib.Seq.{paste};
-ghost use Rattle.lists.specs.Lists.{filter};
 ghost use Rattle.layout.specs.Layout.{limit, hyperedgeCount, read, words};
 ghost use Rattle.layout.specs.Inner.{Formed};
 ghost use Rattle.withdraw_marked.specs.Sparing.{unmarkedOf};
-ghost use Rattle.withdraw_marked.specs.Sifting.{memberSpared, HyperedgesSifted, siftedTable};
+ghost use Rattle.withdraw_marked.specs.Sifting.{memberSpared, membersSpared, HyperedgesSifted, siftedTable};
 use edits::records::end_record;
 use edits::records::store;
 use edits::shift::clear_words;
@@ -31,7 +30,7 @@ fn is_spared(old: &[u32], vertices: &[bool; 256], x: u32) -> bool
 fn keep_spared(t: &mut [u32], old: &[u32], vertices: &[bool; 256], list: &[u32], to: usize) -> usize
     requires { ⌜ Formed limit (now old) ⌝ }
     requires { ⌜ to + length (now list) ≤ length (now t) ⌝ }
-    ensures { λ r. ⌜ (r ≡ length (filter (memberSpared (now (vertices .entry)) (now (old .entry))) (now (list .entry)))) × (now (t .exit) ≡ paste (now (t .entry)) to (filter (memberSpared (now (vertices .entry)) (now (old .entry))) (now (list .entry))) r) ⌝ }
+    ensures { λ r. ⌜ (r ≡ length (membersSpared (now (vertices .entry)) (now (old .entry)) (now (list .entry)))) × (now (t .exit) ≡ paste (now (t .entry)) to (membersSpared (now (vertices .entry)) (now (old .entry)) (now (list .entry))) r) ⌝ }
 {
     let mut c = 0;
     let mut i = 0;

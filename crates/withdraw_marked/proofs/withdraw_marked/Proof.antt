@@ -3,7 +3,7 @@ use Prim.Native.Nat.{ℕ}
 use denote.Ref.{now}
 use lib.ListN.{length-replicate}
 use Rattle.layout.specs.Layout.{limit, size}
-use Rattle.withdraw_marked.proofs.Sifting.{copy-same, marked-withdrawn}
+use Rattle.withdraw_marked.proofs.Sifting.{copied, marked-withdrawn}
 use borrow.Author.Needs.{needs}
 use Rattle.withdraw_marked.proofs.withdraw_marked.Statement.{statement}
 use Rattle.withdraw_marked.proofs.withdraw_marked.Tie as tie
@@ -20,8 +20,7 @@ slice-aggregate-sift-hyperedges c = search needs
 sift-hyperedges-requires : tie.Need-sift-hyperedges-requires
 sift-hyperedges-requires c κs =
     let s = c .before .before .before in let a = s .before .before .before .before in
-    let same = copy-same (now (a .args .t)) _ _ (a .pre) (length-replicate {A = ℕ} (size limit) 0) (s .store .ensures) in
-    (rw same at (a .pre), same)
+    copied (now (a .args .t)) _ _ (a .pre) (length-replicate {A = ℕ} (size limit) 0) (s .store .ensures)
 
 slice-aggregate-sift-vertices : tie.Need-slice-aggregate-sift-vertices
 slice-aggregate-sift-vertices c = search needs
@@ -29,9 +28,8 @@ slice-aggregate-sift-vertices c = search needs
 sift-vertices-requires : tie.Need-sift-vertices-requires
 sift-vertices-requires c κs =
     let s = c .before .before .before .before .before .before .before .before in let a = s .before .before .before .before in
-    let same = copy-same (now (a .args .t)) _ _ (a .pre) (length-replicate {A = ℕ} (size limit) 0) (s .store .ensures) in
-    let shape = rw same at (a .pre .shape) in
-    ((search needs, shape .sized), shape .vertices-le)
+    let f = copied (now (a .args .t)) _ _ (a .pre) (length-replicate {A = ℕ} (size limit) 0) (s .store .ensures) .0 in
+    ((search needs, f .shape .sized), f .shape .vertices-le)
 
 same-length : tie.Need-same-length
 same-length c = search needs
@@ -39,7 +37,7 @@ same-length c = search needs
 returns : tie.Need-returns
 returns c =
     let v = c .before .before in let h = v .before .before .before .before .before in let s = h .before .before .before .before in let a = s .before .before .before .before in
-    let same = copy-same (now (a .args .t)) _ _ (a .pre) (length-replicate {A = ℕ} (size limit) 0) (s .store .ensures) in
+    let same = copied (now (a .args .t)) _ _ (a .pre) (length-replicate {A = ℕ} (size limit) 0) (s .store .ensures) .1 in
     marked-withdrawn _ _ (now (a .args .t)) _ _ _ (a .pre) same (h .sift-hyperedges .ensures) (v .sift-vertices .ensures)
 
 pub withdraw-marked-spec : {M : Type 1} → statement M
