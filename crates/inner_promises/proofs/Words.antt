@@ -22,10 +22,14 @@ use Rattle.formed.proofs.is_shaped.Kinds as is-shaped
 use Rattle.formed.proofs.is_shaped.Reads as is-shaped-reads
 use Rattle.live_members.proofs.all_members_live.Kinds as all-members-live
 use Rattle.live_members.proofs.all_members_live.Reads as all-members-live-reads
+use Rattle.edits.proofs.records.store.Kinds as store
+use Rattle.edits.proofs.records.store.Reads as store-reads
 use Rattle.edits.proofs.records.store_zeros.Kinds as store-zeros
 use Rattle.edits.proofs.records.store_zeros.Reads as store-zeros-reads
 use Rattle.edits.proofs.records.put_members.Kinds as put-members
 use Rattle.edits.proofs.records.put_members.Reads as put-members-reads
+use Rattle.edits.proofs.records.end_record.Kinds as end-record
+use Rattle.edits.proofs.records.end_record.Reads as end-record-reads
 use Rattle.edits.proofs.shift.clear_words.Kinds as clear-words
 use Rattle.edits.proofs.shift.clear_words.Reads as clear-words-reads
 use Rattle.edits.proofs.shift.shift_down.Kinds as shift-down
@@ -36,6 +40,10 @@ use Rattle.rename_vertex.proofs.rename_vertex.Kinds as rename-vertex
 use Rattle.rename_vertex.proofs.rename_vertex.Reads as rename-vertex-reads
 use Rattle.strip_vertex.proofs.strip_vertex.Kinds as strip-vertex
 use Rattle.strip_vertex.proofs.strip_vertex.Reads as strip-vertex-reads
+use Rattle.sift_vertices.proofs.sift_vertices.Kinds as sift-vertices
+use Rattle.sift_vertices.proofs.sift_vertices.Reads as sift-vertices-reads
+use Rattle.withdraw_marked.proofs.withdraw_marked.Kinds as withdraw-marked
+use Rattle.withdraw_marked.proofs.withdraw_marked.Reads as withdraw-marked-reads
 use Rattle.tray_marks.proofs.open_tray.Kinds as open-tray
 use Rattle.tray_marks.proofs.open_tray.Reads as open-tray-reads
 use Rattle.tray_marks.proofs.judge_record.Kinds as judge-record
@@ -66,11 +74,17 @@ all-members-live-agrees κs args a b x y p q = (p ∙ sym q, refl)
 
 -- ---- words stored, cleared and moved
 
+pub store-agrees : Agrees 2 store.ps store.r store-reads.Post (λ _ x. now (x .0))
+store-agrees κs args a b x y p q = (refl, p ∙ sym q)
+
 pub store-zeros-agrees : Agrees 1 store-zeros.ps store-zeros.r store-zeros-reads.Post (λ _ x. now (x .0))
 store-zeros-agrees κs args a b x y p q = (refl, p ∙ sym q)
 
 pub put-members-agrees : Agrees 2 put-members.ps put-members.r put-members-reads.Post (λ _ x. now (x .0))
 put-members-agrees κs args a b x y p q = (refl, p ∙ sym q)
+
+pub end-record-agrees : Agrees 1 end-record.ps end-record.r end-record-reads.Post (λ _ x. now (x .0))
+end-record-agrees κs args a b x y p q = (refl, p ∙ sym q)
 
 pub clear-words-agrees : Agrees 1 clear-words.ps clear-words.r clear-words-reads.Post (λ _ x. now (x .0))
 clear-words-agrees κs args a b x y p q = (refl, p ∙ sym q)
@@ -86,6 +100,12 @@ strip-vertex-agrees κs args a b x y p q = (refl, p ∙ sym q)
 
 pub rename-vertex-agrees : Agrees 1 rename-vertex.ps rename-vertex.r rename-vertex-reads.Post (λ _ x. now (x .0))
 rename-vertex-agrees κs args a b x y p q = (refl, p ∙ sym q)
+
+pub sift-vertices-agrees : Agrees 3 sift-vertices.ps sift-vertices.r sift-vertices-reads.Post (λ _ x. now (x .0))
+sift-vertices-agrees κs args a b x y p q = (refl, p ∙ sym q)
+
+pub withdraw-marked-agrees : Agrees 3 withdraw-marked.ps withdraw-marked.r withdraw-marked-reads.Post (λ _ x. now (x .0))
+withdraw-marked-agrees κs args a b x y p q = (refl, p ∙ sym q)
 
 -- ---- the records of a tray
 
