@@ -37,7 +37,7 @@ module _ {A : Type 0} (f : A → List ℕ) (a r : ℕ) (ws : List ℕ) where
   }
 
   module _ (xs : List A) (j k : ℕ) (s : List ℕ) (st : Relaid f a r ws xs j k s) where
-    -- the records that are written end before record j, and before the place after it
+    -- the records that are written end where record j begins, or before
     before : a + k * r ≤ a + j * r
     before = omega (arith, mul-le-mul-right r (st .behind))
 

@@ -1,4 +1,4 @@
-// The vertex records that have no mark, moved together.
+// The vertex records that have no mark, moved together. `old` is the table as it stood: it is read, and t is written.
 ghost use mathlib.Core.Path.{_≡_};
 ghost use Prim.Native.Nat.{_<_, _≤_};
 ghost use lib.ListN.{length};

@@ -1,4 +1,4 @@
-// The marked records taken out of a table, and the gaps closed once.
+// The marked records taken out of a table, and the gaps closed once. `old` is the table as it stood: it is read, and t is written.
 ghost use mathlib.Core.Path.{_≡_};
 ghost use Prim.Native.Nat.{_+_, _<_, _≤_};
 ghost use lib.ListN.{length};
