@@ -13,7 +13,7 @@ use Rattle.lists.proofs.Cases.{on}
 use Rattle.layout.specs.declared.Found.{Found}
 use Rattle.layout.specs.declared.Found.the-variants.{At, Nothing}
 use Rattle.layout.specs.declared.Answer.{Answer}
-use Rattle.layout.specs.declared.Answer.the-variants.{Done, NotWellFormed, NoMembers, VertexNotLive, HyperedgeNotLive, SameMembers, TooManyMembers, Full, NumbersSpent, ClosedWalk, TooFewHyperedges, NoRoom, BadText, SameVertex, SideBySide, BadRecord, EqualNeighbours}
+use Rattle.layout.specs.declared.Answer.the-variants.{Done, NotWellFormed, NoMembers, VertexNotLive, HyperedgeNotLive, SameMembers, TooManyMembers, Full, NumbersSpent, ClosedWalk, TooFewHyperedges, NoRoom, BadText, SameVertex, SideBySide, BadRecord, NotReviewed, UpstreamHeld, BadOrder, EqualNeighbours}
 use Rattle.layout.specs.Content.{Table, position, isLive}
 use Rattle.layout.specs.Layout.{limit, size, read}
 use Rattle.layout.specs.WellFormed.{wellFormed}
@@ -93,6 +93,14 @@ module _ (xs lent : List ℕ) (c : ℕ) (e : c ≡ length xs) where
   unfolding listed
   listed-fits exit h q = rw (← e, le-leb c (length lent) h, q)
 
+-- ---- the reply to an answer: a is the case b, and x is the number, or the detail, of that case
+
+pub tells-number : {a b : Answer} {x n : ℕ} → a ≡ b → x ≡ n → n ≡ number b → x ≡ number a
+tells-number e p q = p ∙ q ∙ ap number (sym e)
+
+pub tells-detail : {a b : Answer} {x d : ℕ} → a ≡ b → x ≡ d → d ≡ detail b → x ≡ detail a
+tells-detail e p q = p ∙ q ∙ ap detail (sym e)
+
 -- ---- number and detail determine the answer
 
 decode : ℕ → ℕ → Answer
@@ -102,7 +110,8 @@ decode n d =
     (cond (eqb n 5) (SameMembers (record { 0 = d })) (cond (eqb n 6) (TooManyMembers d) (cond (eqb n 7) Full
     (cond (eqb n 8) NumbersSpent (cond (eqb n 9) ClosedWalk (cond (eqb n 10) TooFewHyperedges
     (cond (eqb n 11) (NoRoom d) (cond (eqb n 12) (BadText d) (cond (eqb n 13) (SameVertex (record { 0 = d }))
-    (cond (eqb n 14) (SideBySide (record { 0 = d })) (cond (eqb n 15) (BadRecord d) (EqualNeighbours (record { 0 = d })))))))))))))))))
+    (cond (eqb n 14) (SideBySide (record { 0 = d })) (cond (eqb n 15) (BadRecord d) (cond (eqb n 17) (NotReviewed (record { 0 = d }))
+    (cond (eqb n 18) (UpstreamHeld (record { 0 = d })) (cond (eqb n 19) (BadOrder d) (EqualNeighbours (record { 0 = d }))))))))))))))))))))
 
 decoded : (a : Answer) → decode (number a) (detail a) ≡ a
 unfolding decode
@@ -122,6 +131,9 @@ decoded (BadText line) = refl
 decoded (SameVertex v) = refl
 decoded (SideBySide e) = refl
 decoded (BadRecord i) = refl
+decoded (NotReviewed v) = refl
+decoded (UpstreamHeld v) = refl
+decoded (BadOrder i) = refl
 decoded (EqualNeighbours v) = refl
 
 -- any two results that keep one promise agree in answer and lent words

@@ -6,7 +6,7 @@ use lib.Dec.{leb}
 use lib.ListN.{length}
 use Rattle.lists.specs.Lists.{over}
 use Rattle.layout.specs.declared.Answer.{Answer}
-use Rattle.layout.specs.declared.Answer.the-variants.{Done, NotWellFormed, NoMembers, VertexNotLive, HyperedgeNotLive, SameMembers, TooManyMembers, Full, NumbersSpent, ClosedWalk, TooFewHyperedges, NoRoom, BadText, SameVertex, SideBySide, BadRecord, EqualNeighbours}
+use Rattle.layout.specs.declared.Answer.the-variants.{Done, NotWellFormed, NoMembers, VertexNotLive, HyperedgeNotLive, SameMembers, TooManyMembers, Full, NumbersSpent, ClosedWalk, TooFewHyperedges, NoRoom, BadText, SameVertex, SideBySide, BadRecord, NotReviewed, UpstreamHeld, BadOrder, EqualNeighbours}
 use Rattle.layout.specs.Content.{Table, liveVertices, liveHyperedges, isLive}
 use Rattle.layout.specs.Layout.{limit, read}
 use Rattle.layout.specs.WellFormed.{wellFormed}
@@ -29,6 +29,9 @@ number (BadText line) = 12
 number (SameVertex v) = 13
 number (SideBySide e) = 14
 number (BadRecord i) = 15
+number (NotReviewed v) = 17
+number (UpstreamHeld v) = 18
+number (BadOrder i) = 19
 number (EqualNeighbours v) = 20
 
 -- the detail of each answer, by the same table
@@ -49,6 +52,9 @@ detail (BadText line) = line
 detail (SameVertex v) = v .0
 detail (SideBySide e) = e .0
 detail (BadRecord i) = i
+detail (NotReviewed v) = v .0
+detail (UpstreamHeld v) = v .0
+detail (BadOrder i) = i
 detail (EqualNeighbours v) = v .0
 
 -- what a call leaves: the answer's number and detail, and the words of the lent slice that it may write

@@ -49,6 +49,9 @@ pub enum Answer {
     SameVertex(VertexIndex),
     SideBySide(HyperedgeIndex),
     BadRecord(usize),
+    NotReviewed(VertexIndex),
+    UpstreamHeld(VertexIndex),
+    BadOrder(usize),
     EqualNeighbours(VertexIndex),
 }
 
@@ -79,6 +82,9 @@ pub fn reply_of(a: Answer) -> Reply
         Answer::SameVertex(v) => reply_with(13, v.0 as u64),
         Answer::SideBySide(e) => reply_with(14, e.0 as u64),
         Answer::BadRecord(i) => reply_with(15, i as u64),
+        Answer::NotReviewed(v) => reply_with(17, v.0 as u64),
+        Answer::UpstreamHeld(v) => reply_with(18, v.0 as u64),
+        Answer::BadOrder(i) => reply_with(19, i as u64),
         Answer::EqualNeighbours(v) => reply_with(20, v.0 as u64),
     }
 }

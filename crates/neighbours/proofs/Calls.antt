@@ -26,8 +26,8 @@ use Rattle.trays.specs.declared.Withdrawal.{Withdrawal}
 use Rattle.trays.specs.Trays.{asked}
 use Rattle.trays.specs.Outcomes.{left}
 use Rattle.trays.proofs.Answered.{all-or-none}
-use Rattle.calls.specs.Calls.{addVertex, addHyperedge, update, merge, remove, withdraw, edit}
-use Rattle.neighbours.specs.Neighbours.{noneTwice, NoneTwice, Call, anEdit, clear, readText, call, ofVertex, mayBring}
+use Rattle.calls.specs.Calls.{addVertex, addHyperedge, update, merge, remove, withdraw, edit, Call, anEdit, clear, readText, call}
+use Rattle.neighbours.specs.Neighbours.{noneTwice, NoneTwice, ofVertex, mayBring}
 use Rattle.neighbours.proofs.Content.{vertex-added, hyperedge-added, hyperedge-updated, vertices-merged, hyperedge-removed}
 
 -- words of a table in which no list has two equal neighbours

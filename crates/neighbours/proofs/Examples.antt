@@ -28,8 +28,8 @@ use Rattle.frames.specs.Reading.{readResult}
 use Rattle.frames.specs.Faulty.{isWord}
 use Rattle.frame_laws.proofs.Held.{Worded}
 use Rattle.frame_laws.proofs.Written.{text-accepted, text-content}
-use Rattle.calls.specs.Calls.{remove, withdraw, edit}
-use Rattle.neighbours.specs.Neighbours.{neighboursDiffer, noneTwice, Call, anEdit, readText, call, afterCalls, Brings, Between, Together}
+use Rattle.calls.specs.Calls.{remove, withdraw, edit, Call, anEdit, readText, call, afterCalls}
+use Rattle.neighbours.specs.Neighbours.{neighboursDiffer, noneTwice, Brings, Between, Together}
 
 -- ---- the two tables
 

@@ -11,8 +11,8 @@ use Rattle.layout.specs.WellFormed.{wellFormed}
 use Rattle.layout.specs.Steps.{equalNeighbours}
 use Rattle.layout.specs.Answers.{number, Result}
 use Rattle.edits.proofs.Outcomes.{add-hyperedge-goes, update-goes}
-use Rattle.calls.specs.Calls.{addHyperedge, update, edit}
-use Rattle.neighbours.specs.Neighbours.{NoneTwice, SomeTwice, Call, anEdit, call, Accepted, afterCalls, mayBring, LeavesNoneTwice}
+use Rattle.calls.specs.Calls.{addHyperedge, update, edit, Call, anEdit, call, Accepted, afterCalls}
+use Rattle.neighbours.specs.Neighbours.{NoneTwice, SomeTwice, mayBring, LeavesNoneTwice}
 use Rattle.neighbours.proofs.Content.{no-self-step}
 use Rattle.neighbours.proofs.Calls.{Unequal, call-keeps}
 

@@ -1,4 +1,4 @@
--- Tables in which no list has two equal neighbours, the calls that write a table, and which of them keep it so. Assumes nothing.
+-- Tables in which no list has two equal neighbours, and which of the calls that write a table keep it so. Assumes nothing.
 use mathlib.Core.Path.{_≡_}
 use mathlib.Core.Bool.{Bool, true, false, not}
 use mathlib.Core.List.{List, [], _∷_}
@@ -9,13 +9,10 @@ use Rattle.layout.specs.Content.{vertexOf, hyperedgeOf, Hyperedge, Table}
 use Rattle.layout.specs.Layout.{limit, read}
 use Rattle.layout.specs.WellFormed.{wellFormed}
 use Rattle.layout.specs.Steps.{equalNeighbours, StepIn}
-use Rattle.layout.specs.Answers.{Result}
-use Rattle.edits.specs.Results.{clearResult}
 use Rattle.removals.specs.Removals.{vertex, hyperedge}
 use Rattle.trays.specs.declared.Withdrawal.{Withdrawal}
 use Rattle.trays.specs.Trays.{vertexKind}
-use Rattle.frames.specs.Reading.{readResult}
-use Rattle.calls.specs.Calls.{Edit, addVertex, addHyperedge, update, merge, remove, withdraw, edit}
+use Rattle.calls.specs.Calls.{addVertex, addHyperedge, update, merge, remove, withdraw, Call, anEdit, clear, readText, Accepted, afterCalls}
 
 -- ---- the tables
 
@@ -35,27 +32,6 @@ abbrev pub SomeTwice : List ℕ → Type 0
 SomeTwice ws = noneTwice (read limit ws) ≡ false
 
 -- ---- the calls
-
--- every call that writes a table: an edit, `clear`, the read of a text
-pub data Call : Type 0 where
-  anEdit : Edit → Call
-  clear : Call
-  readText : List ℕ → Call
-
--- what one call answers and leaves
-unfoldable pub call : Call → List ℕ → Result
-call (anEdit e) ws = edit e ws
-call clear ws = clearResult ws
-call (readText text) ws = readResult text ws
-
--- it is not refused
-abbrev pub Accepted : Call → List ℕ → Type 0
-Accepted c ws = call c ws .number ≡ 0
-
--- the words after one call for each of the list
-unfoldable pub afterCalls : List Call → List ℕ → List ℕ
-afterCalls [] ws = ws
-afterCalls (c ∷ cs) ws = afterCalls cs (call c ws .lent)
 
 -- the record is of a vertex
 unfoldable pub ofVertex : Withdrawal → Bool

@@ -10,7 +10,7 @@ use trays::Withdrawal;
 use withdraw_marked::withdraw_marked;
 
 // Judges every record against the table, and marks what each names.
-fn judge_records(t: &[u32], records: &[Withdrawal]) -> Tray
+pub fn judge_records(t: &[u32], records: &[Withdrawal]) -> Tray
     ensures { λ r. ⌜ r ≡ trayOf (now (t .entry)) (now (records .entry)) ⌝ }
 {
     let mut tray = tray_marks::open_tray(t);
@@ -23,7 +23,7 @@ fn judge_records(t: &[u32], records: &[Withdrawal]) -> Tray
 }
 
 // Refuses, or takes out what is marked.
-fn carry_out(t: &mut [u32], tray: Tray) -> Answer
+pub fn carry_out(t: &mut [u32], tray: Tray) -> Answer
     requires { ⌜ OpenFormed tray (now t) ⌝ }
     ensures { λ r. ⌜ result r (now (t .exit)) ≡ carriedOut tray (now (t .entry)) ⌝ }
 {

@@ -1,0 +1,5 @@
+pub mod States
+pub mod Desk
+pub mod Releases
+pub mod Orders
+pub mod Calls
