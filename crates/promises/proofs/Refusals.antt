@@ -108,7 +108,7 @@ module _ {gs : List Ground} {lent : List ℕ} {r : Result} (j : Judged gs lent r
   several-judged xs = on-ground gs lent r j (tooFew xs) (isFew xs) refl
 
   -- a ground for each of a list
-  first-judged : {A : Type 0} (p : A → Bool) (answer : A → Answer) (xs : List A)
+  pub first-judged : {A : Type 0} (p : A → Bool) (answer : A → Answer) (xs : List A)
       → Judged (map (λ x. record { answer = answer x; applies = p x }) xs ++ gs) lent (onFirst p answer xs lent r)
   unfolding onFirst
   first-judged p answer [] = j
@@ -151,7 +151,7 @@ unfolding first _and_
 none-applies [] = refl
 none-applies (g ∷ gs) = none-applies gs
 
-all-apply : (gs : List Ground) → map (unless false) gs ≡ gs
+pub all-apply : (gs : List Ground) → map (unless false) gs ≡ gs
 unfolding _and_
 all-apply [] = refl
 all-apply (g ∷ gs) = ap (λ (hs : List Ground). g ∷ hs) (all-apply gs)

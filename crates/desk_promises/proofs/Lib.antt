@@ -1,0 +1,2 @@
+mod Refusals
+pub mod Calls
