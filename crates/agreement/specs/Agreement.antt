@@ -10,11 +10,15 @@ use borrow.Fn.Kinds.{PK, RK, Dens, resT, endedOf, Out}
 use denote.Triple.Entry.{Args, Res}
 use denote.Triple.Clauses.{Ended, AtExit, Clauses}
 
--- any two results satisfying the promise on the same arguments agree: in the answer, and in the words at exit of the slice that the call may write
-abbrev pub Agrees : (n : ℕ) (ps : List (PK n)) (r : RK n) → Out n ps r → ((κs : Lfts n) → AtExit (endedOf n ps r) κs → List ℕ) → Type 0
-Agrees n ps r Post lent =
+-- any two results satisfying the promise on the same arguments agree: in the answer, and in what is lent, at exit
+abbrev pub AgreesOn : {A : Type 0} (n : ℕ) (ps : List (PK n)) (r : RK n) → Out n ps r → ((κs : Lfts n) → AtExit (endedOf n ps r) κs → A) → Type 0
+AgreesOn n ps r Post lent =
     (κs : Lfts n) (args : Dens κs ps) (a b : resT r κs .Denot) (x y : AtExit (endedOf n ps r) κs) →
     Post κs args a x → Post κs args b y → (a ≡ b) × (lent κs x ≡ lent κs y)
+
+-- what is lent being the words of the slice that the call may write
+abbrev pub Agrees : (n : ℕ) (ps : List (PK n)) (r : RK n) → Out n ps r → ((κs : Lfts n) → AtExit (endedOf n ps r) κs → List ℕ) → Type 0
+Agrees n ps r Post lent = AgreesOn {A = List ℕ} n ps r Post lent
 
 -- where the call may be made, any two results satisfying the promise agree in what is given: a part of the answer and of the words at exit
 abbrev pub AgreesIn : {A : Type 0} (n : ℕ) (ps : List (PK n)) (r : RK n) → ((κs : Lfts n) → Dens κs ps → Type 0) → Out n ps r
@@ -36,7 +40,7 @@ IsContract 𝓤 T clauses promise =
     clauses κs args ≡ record { ghost = Unit {0}; requires = λ _. emp 𝓤; ensures = λ _ r x. fact 𝓤 (promise κs args r x) }
 
 -- any two results satisfying the promise on the same arguments agree, as above
-abbrev pub AgreesBy : (T : Ended) → Promise T → ((κs : Lfts (T .signature .lifetimes)) → AtExit T κs → List ℕ) → Type 0
+abbrev pub AgreesBy : {A : Type 0} (T : Ended) → Promise T → ((κs : Lfts (T .signature .lifetimes)) → AtExit T κs → A) → Type 0
 AgreesBy T promise lent =
     (κs : Lfts (T .signature .lifetimes)) (args : Args (T .signature) κs) (a b : Res (T .signature) κs) (x y : AtExit T κs) →
     promise κs args a x → promise κs args b y → (a ≡ b) × (lent κs x ≡ lent κs y)
