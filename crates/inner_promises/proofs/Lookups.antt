@@ -17,7 +17,7 @@ use Rattle.lookups.specs.State.{start, Beyond, Headed}
 use Rattle.lookups.proofs.Full.{filling-end}
 use Rattle.agreement.specs.Agreement.{Agrees, AgreesIn}
 use Rattle.inner_promises.proofs.Parts.{two, three}
-use Rattle.inner_promises.specs.Given.{firsts, headAt}
+use Rattle.inner_promises.specs.Given.{firsts, firstMarks, headAt}
 use Rattle.marks.proofs.mark.Kinds as mark
 use Rattle.marks.proofs.mark.Reads as mark-reads
 use Rattle.marks.proofs.count_marked.Kinds as count-marked
@@ -26,6 +26,8 @@ use Rattle.marks.proofs.write_marked.Kinds as write-marked
 use Rattle.marks.proofs.write_marked.Reads as write-marked-reads
 use Rattle.marks.proofs.list_marked.Kinds as list-marked
 use Rattle.marks.proofs.list_marked.Reads as list-marked-reads
+use Rattle.adjacent.proofs.related_marks.Kinds as related-marks
+use Rattle.adjacent.proofs.related_marks.Reads as related-marks-reads
 use Rattle.lookups.proofs.ends_at.Kinds as ends-at
 use Rattle.lookups.proofs.ends_at.Reads as ends-at-reads
 use Rattle.lookups.proofs.holds.Kinds as holds
@@ -54,6 +56,11 @@ write-marked-agrees κs args a b x y p q = (refl, p ∙ sym q)
 
 pub list-marked-agrees : Agrees 3 list-marked.ps list-marked.r list-marked-reads.Post (λ _ x. now (x .1 .1 .0))
 list-marked-agrees κs args a b x y p q = agree _ p q
+
+-- the marks of the live vertices
+pub related-marks-agrees : AgreesIn 1 related-marks.ps related-marks.r related-marks-reads.Pre related-marks-reads.Post
+    (λ κs args a x. firstMarks (length (liveVertices (read limit (now (args .0))))) a)
+related-marks-agrees κs args a b x y pre p q = tab-ext _ _ _ (λ k l. p .each k l ∙ sym (q .each k l))
 
 -- ---- lists of members
 
