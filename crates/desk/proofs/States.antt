@@ -7,7 +7,6 @@ use native.Mathlib.Omega.{arith}
 use lib.ListN.{length, getD, take, drop, replicate, length-append, List·getD-eq-default}
 use lib.Seq.{length-take-le, getD-take, take-all, append-snoc, drop-at, ext-getD}
 use borrow.Author.Tests.{eqb-true, eq-eqb, lt-ltb, ltb-true}
-use Rattle.lists.specs.Tests.{_and_}
 use Rattle.lists.specs.Lists.{all, zeros, memb, isBelow, pad, Ascending}
 use Rattle.lists.proofs.Cases.{clash, on-below, and-left, and-right, and-both}
 use Rattle.lists.proofs.All.{all-at, all-join}
