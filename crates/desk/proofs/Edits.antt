@@ -10,7 +10,7 @@ use lib.Dec.{eqb}
 use lib.ListN.{length, length-append}
 use borrow.Author.Tests.{eq-eqb}
 use Rattle.lists.specs.Lists.{memb, filter, otherThan, itself, Ascending}
-use Rattle.lists.proofs.Cases.{on, clash, and-left, and-right}
+use Rattle.lists.proofs.Cases.{on, clash, and-left, and-right, and-both}
 use Rattle.lists.proofs.Kept.{filter-map}
 use Rattle.lists.proofs.Maps.{map-length}
 use Rattle.layout.specs.declared.Answer.{Answer}
@@ -37,7 +37,7 @@ use Rattle.trays.proofs.Answered.{tray-unformed, all-or-none}
 use Rattle.calls.specs.Calls.{Edit, addVertex, addHyperedge, update, merge, remove, withdraw, edit}
 use Rattle.desk.specs.States.{statesFit, stateOf, statesBy}
 use Rattle.desk.specs.Desk.{Desk, deskOf, outcome, answering, content, deskFits, following, edited, deskEdit}
-use Rattle.desk.proofs.States.{states-same, states-one-more}
+use Rattle.desk.proofs.States.{states-part, states-follow-fit, states-same, states-one-more}
 
 -- ---- the live vertices of a table
 
@@ -207,6 +207,20 @@ module _ (d : Desk) (h : deskFits d ≡ true) where
       let room : length live < vertexLimit = omega (arith, length-append live (content d .nextVertex ∷ []), more) in
       ap (deskOf ws) (ap (statesBy (stateOf (content d) (d .states))) l
       ∙ states-one-more live (d .states) (live-rises (d .table) table-formed) few (desk-fits-of h .fit) _ (next-dead (d .table) table-formed) room)
+
+  -- in any table they fit
+  pub following-fits : (ws : List ℕ) → wellFormed limit ws ≡ true → deskFits (following d ws) ≡ true
+  unfolding deskFits following
+  following-fits ws f =
+      and-both _ _ f (states-follow-fit _ (liveVertices (content d)) (d .states) (liveVertices (read limit ws)) (desk-fits-of h .fit) (live-few ws f))
+
+-- to a table, and from there to one with a part of its vertices
+pub following-part : (d : Desk) (ws part : List ℕ)
+    → ((v : ℕ) → memb v (liveVertices (read limit part)) ≡ true → memb v (liveVertices (read limit ws)) ≡ true)
+    → following (following d ws) part ≡ following d part
+unfolding following
+following-part d ws part within =
+    ap (deskOf part) (states-part (stateOf (content d) (d .states)) (liveVertices (read limit ws)) (liveVertices (read limit part)) within)
 
 -- ---- edits at the desk
 

@@ -4,12 +4,13 @@ use mathlib.Core.Bool.{true, false}
 use mathlib.Core.List.{List, [], _∷_, _++_, map}
 use Prim.Native.Nat.{ℕ, zero, suc, _-_, _≤_, _<_}
 use native.Mathlib.Omega.{arith}
-use lib.ListN.{length, getD, take, drop, replicate, length-append, List·getD-eq-default}
+use lib.Dec.{eqb}
+use lib.ListN.{length, getD, take, drop, replicate, length-append, length-replicate, take-append-drop, List·getD-eq-default}
 use lib.Seq.{length-take-le, getD-take, take-all, append-snoc, drop-at, ext-getD}
 use borrow.Author.Tests.{eqb-true, eq-eqb, lt-ltb, ltb-true}
 use Rattle.lists.specs.Lists.{all, zeros, memb, isBelow, pad, Ascending}
 use Rattle.lists.proofs.Cases.{clash, on-below, and-left, and-right, and-both}
-use Rattle.lists.proofs.All.{all-at, all-join}
+use Rattle.lists.proofs.All.{all-at, all-join, all-append}
 use Rattle.lists.proofs.Kept.{all-always, all-map}
 use Rattle.lists.proofs.Maps.{map-length, map-snoc}
 use Rattle.lists.proofs.Memb.{memb-getD}
@@ -21,7 +22,7 @@ use Rattle.layout.specs.declared.Found.the-variants.{At, Nothing}
 use Rattle.layout.specs.Content.{position}
 use Rattle.layout.specs.Layout.{vertexLimit}
 use Rattle.layout.proofs.Position.{position-none, position-found, missing-dead, position-here}
-use Rattle.desk.specs.States.{waiting, released, statesFit, stateAt, stateIn, statesBy}
+use Rattle.desk.specs.States.{waiting, released, statesFit, stateAt, stateIn, statesBy, allWaiting}
 
 -- ---- states that fit, taken apart
 
@@ -128,14 +129,33 @@ pub states-follow-fit : (n : ℕ) (old ss live : List ℕ) → statesFit n ss �
     → statesFit (length live) (statesBy (stateIn old ss) live) ≡ true
 states-follow-fit n old ss live fit few = states-by-fit (stateIn old ss) live (state-below n old ss fit) few
 
+-- ---- every record waits
+
+pub waiting-fits : (n : ℕ) → statesFit n allWaiting ≡ true
+unfolding zeros
+waiting-fits n =
+    states-fit-by (record {
+      sized = length-replicate vertexLimit waiting;
+      known = blank-known vertexLimit;
+      unused = all-append (eqb 0) (take n allWaiting) (drop n allWaiting) (ap (all (eqb 0)) (take-append-drop n allWaiting) ∙ blank-zeros vertexLimit) .1;
+    })
+
+found-waiting : (p : Found) → stateAt p allWaiting ≡ waiting
+found-waiting (At i) = zero-end [] vertexLimit i
+found-waiting Nothing = refl
+
+pub waiting-all : (live : List ℕ) (v : ℕ) → stateIn live allWaiting v ≡ waiting
+unfolding stateIn
+waiting-all live v = found-waiting (position v live)
+
+-- ---- states that fit, laid out again
+
 -- a 0 more before the 0s
 pad-more : (n : ℕ) (xs : List ℕ) → length xs < n → pad n (xs ++ (0 ∷ [])) ≡ pad n xs
 pad-more n xs h =
     let k : ℕ = n - length (xs ++ (0 ∷ [])) in
     let e : n - length xs ≡ suc k = omega (arith, length-append xs (0 ∷ [])) in
     append-snoc xs 0 (replicate k 0) ∙ ap (λ (m : ℕ). xs ++ replicate m 0) (sym e)
-
--- ---- states that fit, laid out again
 
 module _ (live ss : List ℕ) (asc : Ascending live) (few : length live ≤ vertexLimit) (fit : statesFit (length live) ss ≡ true) where
   sized : length ss ≡ vertexLimit
