@@ -1,2 +1,3 @@
 pub mod Repeats
 pub mod Orders
+pub mod Down
