@@ -81,7 +81,8 @@ module _ (d : Desk) (v : ℕ) (fits : deskFits d ≡ true) (live : isLive (liveV
   review-fits : deskFits (afterReview d v) ≡ true
   review-fits = signed-fits d fits v _ live (once-small _ (state-small (content d) (d .states) _ v (fits-states d fits)))
 
-  after-states : (u : ℕ) → stateOf (content d) (afterReview d v .states) u ≡ cond (eqb u v) (onceReviewed (stateOf (content d) (d .states) u)) (stateOf (content d) (d .states) u)
+  after-states : (u : ℕ)
+      → stateOf (content d) (afterReview d v .states) u ≡ cond (eqb u v) (onceReviewed (stateOf (content d) (d .states) u)) (stateOf (content d) (d .states) u)
   after-states u = state-reviewed (content d) (d .states) v live (fits-room d fits) u
 
 two-reviews : (a b : Bool) (x y z : ℕ) → y ≡ cond a (onceReviewed x) x → z ≡ cond b (onceReviewed y) y → z ≡ cond (a || b) (onceReviewed x) x

@@ -1,3 +1,4 @@
 pub mod Repeats
 pub mod Orders
 pub mod Down
+pub mod Upstream
