@@ -94,7 +94,8 @@ module _ (ws : List ℕ) (formed : wellFormed limit ws ≡ true) where
   stays e a n = record { refused = λ k q. refl; formed = formed; live = λ q. clash (eq-eqb (number a) 0 q) n }
 
   -- done, with the words of a content
-  becomes : (e : Edit) (x : ℕ) (t : Table) → holdable limit t ≡ true → liveVertices t ≡ liveAfter e (read limit ws) → Went e ws (result (Done x) (words limit t))
+  becomes : (e : Edit) (x : ℕ) (t : Table) → holdable limit t ≡ true → liveVertices t ≡ liveAfter e (read limit ws)
+      → Went e ws (result (Done x) (words limit t))
   becomes e x t h l = record {
     refused = λ k q. absurd (omega (arith, q));
     formed = words-formed limit t h;
