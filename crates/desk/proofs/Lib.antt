@@ -1,0 +1,3 @@
+pub mod States
+pub mod Edits
+pub mod Signing
