@@ -85,3 +85,11 @@ module _ (d : Desk) where
   pub open-lent : isOpen d ≡ true → length (d .states) ≡ vertexLimit
   unfolding isOpen
   open-lent o = states-fit-of (and-right _ _ (and-right _ _ o)) .sized
+
+-- b is what `is_open` found, and the code tested `!b`
+module _ (ws ss : List ℕ) (b : Bool) (e : b ≡ isOpen (deskOf ws ss)) (h : not b ≡ false) where
+  pub sized-when-open : length ws ≡ size limit
+  sized-when-open = open-sized (deskOf ws ss) (sym e ∙ not-false b h)
+
+  pub few-when-open : vertexCount ws ≤ vertexLimit
+  few-when-open = open-few (deskOf ws ss) (sym e ∙ not-false b h)

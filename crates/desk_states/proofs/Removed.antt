@@ -20,7 +20,7 @@ use Rattle.desk.specs.States.{stateIn, statesBy}
 use Rattle.desk.specs.Desk.{Desk, deskOf, outcome, answering, deskFits, following, edited}
 use Rattle.desk.proofs.Edits.{following-same}
 use Rattle.desk_states.specs.Open.{isOpen}
-use Rattle.desk_states.specs.Following.{Noted, Survivors, followed, Followable}
+use Rattle.desk_states.specs.Following.{Noted, Opened, Survivors, followed, Followable}
 use Rattle.desk_states.proofs.Open.{open-fits, unformed-unfit, shut-unfit, open-few, open-lent}
 
 -- r is what a call on the words ws leaves: it may take vertices out where it is done, and changes nothing where it is refused
@@ -40,11 +40,14 @@ unfit-edited r d u = rw u
 pub shut-edited : (r : Result) (ws ss : List ℕ) (b : Bool) → b ≡ isOpen (deskOf ws ss) → not b ≡ true → outcome NotWellFormed (deskOf ws ss) ≡ edited r (deskOf ws ss)
 shut-edited r ws ss b e h = sym (unfit-edited r (deskOf ws ss) (shut-unfit (deskOf ws ss) (sym e ∙ not-true b h)))
 
--- n is what `vertex_count` found, numbers what `note_numbers` did, and then the call answered a and left the words left
-module _ (ws ss : List ℕ) (is-open : isOpen (deskOf ws ss) ≡ true) (n : ℕ) (en : n ≡ vertexCount ws) (numbers : List ℕ) (noted : Noted ws numbers)
-    (a : Answer) (left : List ℕ) (rm : Removes ws (result a left)) where
+-- the desk was found open and its numbers noted: n is what `vertex_count` found, numbers what `note_numbers` did
+pub opened-by : (ws ss : List ℕ) (n : ℕ) (numbers : List ℕ) (b : Bool) → b ≡ isOpen (deskOf ws ss) → not b ≡ false → n ≡ vertexCount ws → Noted ws numbers → Opened ws ss n numbers
+opened-by ws ss n numbers b e h en noted = record { is-open = sym e ∙ not-false b h; count = en; noted = noted }
+
+-- the call answered a and left the words left
+module _ (ws ss : List ℕ) (n : ℕ) (numbers : List ℕ) (op : Opened ws ss n numbers) (a : Answer) (left : List ℕ) (rm : Removes ws (result a left)) where
   noted-live : take n numbers ≡ liveVertices (read limit ws)
-  noted-live = ap (λ (k : ℕ). take k numbers) en ∙ noted .front ∙ sym (live-vertices limit ws)
+  noted-live = ap (λ (k : ℕ). take k numbers) (op .count) ∙ op .noted .front ∙ sym (live-vertices limit ws)
 
   done-formed : eqb (number a) 0 ≡ true → wellFormed limit ws ≡ true
   done-formed d =
@@ -54,8 +57,8 @@ module _ (ws ss : List ℕ) (is-open : isOpen (deskOf ws ss) ≡ true) (n : ℕ)
   survivors : eqb (number a) 0 ≡ true → Survivors numbers n left
   survivors d =
       let f = done-formed d in record {
-        room = noted .room;
-        few = rw en (open-few (deskOf ws ss) is-open);
+        room = op .noted .room;
+        few = rw (op .count) (open-few (deskOf ws ss) (op .is-open));
         ascend = subst Ascending (sym (noted-live ∙ live-vertices limit ws)) (formed-of limit ws f .vertices-ascend);
         sized = formed-of limit left (rm .formed f) .shape .sized;
         keeps = rm .keeps;
@@ -63,7 +66,7 @@ module _ (ws ss : List ℕ) (is-open : isOpen (deskOf ws ss) ≡ true) (n : ℕ)
       }
 
   followable : Followable a numbers n left ss
-  followable = record { lent = open-lent (deskOf ws ss) is-open; left = survivors }
+  followable = record { lent = open-lent (deskOf ws ss) (op .is-open); left = survivors }
 
   -- the states are those that follow
   module _ (ss′ : List ℕ) (es : ss′ ≡ followed a (take n numbers) ss (vertexColumn left)) where
@@ -81,7 +84,7 @@ module _ (ws ss : List ℕ) (is-open : isOpen (deskOf ws ss) ≡ true) (n : ℕ)
         on (eqb (number a) 0)
         (λ d. ap (deskOf left) (follows d))
         (λ d. ap₂ deskOf (rm .refused d) (stays d)
-        ∙ sym (following-same (deskOf ws ss) (open-fits (deskOf ws ss) is-open f)) ∙ ap (following (deskOf ws ss)) (sym (rm .refused d)))
+        ∙ sym (following-same (deskOf ws ss) (open-fits (deskOf ws ss) (op .is-open) f)) ∙ ap (following (deskOf ws ss)) (sym (rm .refused d)))
 
     refused-is : wellFormed limit ws ≡ false → outcome a (deskOf left ss′) ≡ outcome NotWellFormed (deskOf ws ss)
     refused-is u =
@@ -93,16 +96,23 @@ module _ (ws ss : List ℕ) (is-open : isOpen (deskOf ws ss) ≡ true) (n : ℕ)
     unfolding edited
     now-edited =
         on (wellFormed limit ws)
-        (λ f. rw (open-fits (deskOf ws ss) is-open f) (ap (outcome a) (desk-is f)))
+        (λ f. rw (open-fits (deskOf ws ss) (op .is-open) f) (ap (outcome a) (desk-is f)))
         (λ u. refused-is u ∙ sym (unfit-edited (result a left) (deskOf ws ss) (unformed-unfit (deskOf ws ss) u)))
 
--- as the code finds it: b is what `is_open` found, and the code tested `!b`; r is what the call's contract says
+-- r is what the call's contract says
+module _ (ws ss : List ℕ) (n : ℕ) (numbers : List ℕ) (op : Opened ws ss n numbers) (a : Answer) (left : List ℕ) (r : Result) (er : result a left ≡ r) (rm : Removes ws r) where
+  pub opened-left : Followable a numbers n left ss
+  opened-left = followable ws ss n numbers op a left (subst (Removes ws) (sym er) rm)
+
+  pub opened-edited : (ss′ : List ℕ) → ss′ ≡ followed a (take n numbers) ss (vertexColumn left) → outcome a (deskOf left ss′) ≡ edited r (deskOf ws ss)
+  opened-edited ss′ es =
+      now-edited ws ss n numbers op a left (subst (Removes ws) (sym er) rm) ss′ es ∙ ap (λ (r : Result). edited r (deskOf ws ss)) er
+
+-- the same where one function opens the desk, notes the numbers and makes the call
 module _ (ws ss : List ℕ) (b : Bool) (eb : b ≡ isOpen (deskOf ws ss)) (hb : not b ≡ false) (n : ℕ) (en : n ≡ vertexCount ws) (numbers : List ℕ) (noted : Noted ws numbers)
     (a : Answer) (left : List ℕ) (r : Result) (er : result a left ≡ r) (rm : Removes ws r) where
   pub removed-left : Followable a numbers n left ss
-  removed-left = followable ws ss (sym eb ∙ not-false b hb) n en numbers noted a left (subst (Removes ws) (sym er) rm)
+  removed-left = opened-left ws ss n numbers (opened-by ws ss n numbers b eb hb en noted) a left r er rm
 
   pub removed-edited : (ss′ : List ℕ) → ss′ ≡ followed a (take n numbers) ss (vertexColumn left) → outcome a (deskOf left ss′) ≡ edited r (deskOf ws ss)
-  removed-edited ss′ es =
-      now-edited ws ss (sym eb ∙ not-false b hb) n en numbers noted a left (subst (Removes ws) (sym er) rm) ss′ es
-      ∙ ap (λ (r : Result). edited r (deskOf ws ss)) er
+  removed-edited = opened-edited ws ss n numbers (opened-by ws ss n numbers b eb hb en noted) a left r er rm

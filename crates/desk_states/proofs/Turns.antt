@@ -76,7 +76,7 @@ module _ (numbers : List ℕ) (n : ℕ) (ws : List ℕ) (v : Survivors numbers n
         ap (λ (x : ℕ). memb x (filter (v .keeps) live)) (sym e ∙ word-is k l) ∙ memb-getD (filter (v .keeps) live) k (rw (← count-is) l) in
         and-left _ _ (sym (memb-filter (v .keeps) (getD live i 0) live) ∙ m)
 
-    pub passed : v .keeps (getD live i 0) ≡ false → StatesMoved (v .keeps) live ss (i + 1) k s
+    passed : v .keeps (getD live i 0) ≡ false → StatesMoved (v .keeps) live ss (i + 1) k s
     passed e = rw (one-more, e) (relaid-pass (stateWords live ss) 0 1 ss _ i k s st)
 
     -- its state is still where it was

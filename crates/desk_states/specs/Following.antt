@@ -12,11 +12,19 @@ use Rattle.layout.specs.Inner.{vertexColumn}
 use Rattle.layout.specs.Answers.{number}
 use Rattle.edits.specs.Rewriting.{Relaid}
 use Rattle.desk.specs.States.{stateIn, statesBy}
+use Rattle.desk.specs.Desk.{deskOf}
+use Rattle.desk_states.specs.Open.{isOpen}
 
 -- the numbers of the vertex records of ws stand at the front of 256 words
 pub record Noted (ws numbers : List ℕ) : Type 0 where
   pub room : length numbers ≡ vertexLimit
   pub front : take (vertexCount ws) numbers ≡ vertexColumn ws
+
+-- the desk was found open, and the numbers of its n vertices are noted
+pub record Opened (ws ss : List ℕ) (n : ℕ) (numbers : List ℕ) : Type 0 where
+  pub is-open : isOpen (deskOf ws ss) ≡ true
+  pub count : n ≡ vertexCount ws
+  pub noted : Noted ws numbers
 
 -- the first n numbers ascend, and the vertex records of ws are those of them that are kept
 pub record Survivors (numbers : List ℕ) (n : ℕ) (ws : List ℕ) : Type 0 where
