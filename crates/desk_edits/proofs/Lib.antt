@@ -1,0 +1,3 @@
+mod Kept
+mod Removed
+mod Anew
