@@ -46,7 +46,6 @@ use Rattle.trays.specs.declared.Withdrawal.{Withdrawal}
 use Rattle.trays.proofs.Withdrawal as T
 use Rattle.tray_marks.specs.declared.Tray.{Tray}
 use Rattle.tray_marks.specs.Marking.{trayOf}
-use Rattle.tray_marks.proofs.Marking.{tray-formed}
 use Rattle.tray_marks.proofs.Tray as D
 use Rattle.tray_marks.proofs.Tray.Laws as D′
 use Rattle.withdraw_tray.specs.Carried.{carriedOut}
@@ -163,7 +162,7 @@ module _ {M : Type 1} (𝓤 : URA M) (H : Heap 𝓤) (A : Atoms 𝓤) (W : Given
 
   goes-carry : IsTray tray → ent 𝓤 (⋆ 𝓤 H A ((‵ (flft κ q) ⊛ ‵ (flft σ o)) ∷ ‵ Table ∷ ‵ States ∷ [])) (Carry 𝓤 H A mem run .pre to-carry)
   goes-carry g =
-      qed W ((‵ (flft κ q) ⊛ ‵ (flft σ o)) ∷ ‵ Table ∷ ‵ States ∷ []) ∵ says ! (tray-formed ts (l .now)) $
+      qed W ((‵ (flft κ q) ⊛ ‵ (flft σ o)) ∷ ‵ Table ∷ ‵ States ∷ []) ∵ says ! (record { records = l .now; judged = refl }) $
       nothing ! $ owned ! D.the-row (Is D.the-row) (LL.makes D.the-type D′.the-plain 𝓤 H A) tray _ g $ fjoin ! $
       move ! (3 ∷ 0 ∷ []) $ fjoin ! $ move ! (2 ∷ 0 ∷ []) $ fjoin ! $
       move ! (1 ∷ []) $ split ! $ nothing ! $ move ! (2 ∷ 0 ∷ []) $ join ! $ move ! (1 ∷ 0 ∷ []) $ join ! $ join ! $ done !
