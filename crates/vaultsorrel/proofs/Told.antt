@@ -12,5 +12,6 @@ pub told : (a : Answer) (r : Reply) (lent : List ℕ) (promised : Result) → (r
 told a r lent promised e p = ap₂ (λ (n d : ℕ). record { number = n; detail = d; lent = lent }) (e .0) (e .1) ∙ p
 
 -- the same at the desk
-pub told-at : (a : Answer) (r : Reply) (left : Desk) (promised : Outcome) → (r .number ≡ number a) × (r .detail ≡ detail a) → outcome a left ≡ promised → repliedAt r left ≡ promised
+pub told-at : (a : Answer) (r : Reply) (left : Desk) (promised : Outcome)
+    → (r .number ≡ number a) × (r .detail ≡ detail a) → outcome a left ≡ promised → repliedAt r left ≡ promised
 told-at a r left promised e p = ap₂ (λ (n d : ℕ). record { number = n; detail = d; desk = left }) (e .0) (e .1) ∙ p

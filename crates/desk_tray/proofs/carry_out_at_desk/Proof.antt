@@ -41,4 +41,5 @@ returns-2 c = search carried-edited
 pub carry-out-at-desk-spec : {M : Type 1} → statement M
 carry-out-at-desk-spec =
     tie.close
-    (tie.spec is-open-requires same-length same-length-2 returns vertex-count-requires note-numbers-requires carry-out-requires follow-done-requires same-length-3 same-length-4 returns-2)
+    (tie.spec is-open-requires same-length same-length-2 returns vertex-count-requires note-numbers-requires carry-out-requires follow-done-requires
+    same-length-3 same-length-4 returns-2)

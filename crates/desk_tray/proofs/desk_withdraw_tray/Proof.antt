@@ -139,12 +139,14 @@ module _ {M : Type 1} (𝓤 : URA M) (H : Heap 𝓤) (A : Atoms 𝓤) (W : Given
   abbrev to-judge : ℕ → GName → Judge 𝓤 H A mem run .Ghost
   to-judge ν δ = (((ν ∷ [], (ι, tt)), (fullShare, (p, tt)), tt, (t δ, (l, tt)), (tableVal ∷ [], (listVal ∷ [], tt))), tt)
 
-  goes-judge : (ν : ℕ) (δ : GName) → ent 𝓤 (⋆ 𝓤 H A ((‵ (flft (ν ∷ []) fullShare) ⊛ ‵ (flft ι p)) ∷ ‵ (Lent ν δ) ∷ ‵ Records ∷ [])) (Judge 𝓤 H A mem run .pre (to-judge ν δ))
+  goes-judge : (ν : ℕ) (δ : GName)
+      → ent 𝓤 (⋆ 𝓤 H A ((‵ (flft (ν ∷ []) fullShare) ⊛ ‵ (flft ι p)) ∷ ‵ (Lent ν δ) ∷ ‵ Records ∷ [])) (Judge 𝓤 H A mem run .pre (to-judge ν δ))
   goes-judge ν δ =
       qed W ((‵ (flft (ν ∷ []) fullShare) ⊛ ‵ (flft ι p)) ∷ ‵ (Lent ν δ) ∷ ‵ Records ∷ []) ∵ nothing ! $ move ! (3 ∷ 0 ∷ []) $ fjoin ! $ move ! (2 ∷ 0 ∷ []) $ fjoin ! $
       move ! (1 ∷ []) $ split ! $ nothing ! $ move ! (2 ∷ 0 ∷ []) $ join ! $ move ! (1 ∷ 0 ∷ []) $ join ! $ join ! $ frame ! $ done !
 
-  judge-said : (ν : ℕ) (δ : GName) (r : Tray) → ent 𝓤 (ensured 𝓤 H A judge-records.ended (judge-records.clauses 𝓤 H A mem run) (ν ∷ [], (ι, tt)) (t δ, (l, tt)) tt r) (fact 𝓤 (r ≡ tray))
+  judge-said : (ν : ℕ) (δ : GName) (r : Tray)
+      → ent 𝓤 (ensured 𝓤 H A judge-records.ended (judge-records.clauses 𝓤 H A mem run) (ν ∷ [], (ι, tt)) (t δ, (l, tt)) tt r) (fact 𝓤 (r ≡ tray))
   judge-said ν δ r = exE 𝓤 _ (λ ws. snd∗ 𝓤 (sem 𝓤 H A (lasts judge-records.ended (ν ∷ [], (ι, tt)) (t δ, (l, tt)) ws)) (fact 𝓤 (r ≡ tray)))
 
   -- what it leaves, where its value is u
@@ -191,12 +193,14 @@ module _ {M : Type 1} (𝓤 : URA M) (H : Heap 𝓤) (A : Atoms 𝓤) (W : Given
         ∷ ‵ (froom (sliceTy readTy) l₆ 0) ∷ ‵ (fdies (sliceTy readTy) l₆) ∷ ‵ (froom readTy l₅ 0) ∷ ‵ (fdies readTy l₅) ∷ ‵ (froom D′.mir l₄ 0) ∷ ‵ (fdies D′.mir l₄)
         ∷ ‵ (fat fullShare listTy l₃ 0 listVal) ∷ ‵ (fdies listTy l₃) ∷ ‵ (fat fullShare statesTy l₂ 0 statesVal) ∷ ‵ (fdies statesTy l₂)
         ∷ ‵ (fat fullShare tableTy l₁ 0 tableVal) ∷ ‵ (fdies tableTy l₁) ∷ ‵ (froom E′.mir l₀ 0) ∷ ‵ (fdies E′.mir l₀)
-        ∷ (‵ (flft κ q) ⊛ (‵ (flft σ o) ⊛ (‵ (flft ι p) ⊛ ‵ ftrue))) ∷ ‵ (owns (MutSlice (named 0) κ u32 ∷ MutSlice (named 1) σ u32 ∷ ShrSlice (named 2) ι T.the-row ∷ []) x at) ∷ []
+        ∷ (‵ (flft κ q) ⊛ (‵ (flft σ o) ⊛ (‵ (flft ι p) ⊛ ‵ ftrue)))
+        ∷ ‵ (owns (MutSlice (named 0) κ u32 ∷ MutSlice (named 1) σ u32 ∷ ShrSlice (named 2) ι T.the-row ∷ []) x at) ∷ []
 
     begins : Sq W Entered (runs (𝓣 .C) (𝓣 .Λ) En (code.function .body) (atRet En Post))
     begins =
         assigns ! (addr ! (from ! (fld ! refl (hop ! (look-in ! 18 (sub ! 0 refl (whole !))) (stop !))))) (from ! (stop !)) (init ! 10 refl (tt, tt)) $
-        assigns ! (agg ! (and-then ! (load ! (from ! (stop !)) (look ! 10 refl)) (and-then ! (load ! (from ! (fld ! refl (stop !))) (look-in ! 18 (sub ! 1 refl (whole !)))) (no-more !))))
+        assigns ! (agg ! (and-then ! (load ! (from ! (stop !)) (look ! 10 refl))
+        (and-then ! (load ! (from ! (fld ! refl (stop !))) (look-in ! 18 (sub ! 1 refl (whole !)))) (no-more !))))
         (from ! (stop !)) (init ! 8 refl (tt, (tt, (record { fits = gt .0 }, tt)))) $
         move ! (23 ∷ []) $ fsplit ! $ move ! (1 ∷ []) $ fsplit ! $ move ! (1 ∷ []) $ fsplit ! $
         move ! (26 ∷ []) $ split ! $ move ! (1 ∷ []) $ split ! $ move ! (1 ∷ []) $ split ! $
@@ -211,7 +215,8 @@ module _ {M : Type 1} (𝓤 : URA M) (H : Heap 𝓤) (A : Atoms 𝓤) (W : Given
         move ! (4 ∷ 5 ∷ []) $ join ! $ move ! (0 ∷ 3 ∷ 1 ∷ []) $
         use3 W (raw (Judge 𝓤 H A mem run .pre (to-judge ν δ))) (goes-judge ν δ) $
         -- [what `judge_records` asks; the list; what is kept of the table; true; the states' token; true; the states; _10; …]
-        calls-at ! fm (Judge 𝓤 H A mem run) known-judge (to-judge ν δ) (and-then ! (load ! (from ! (stop !)) (look ! 15 refl)) (and-then ! (load ! (from ! (stop !)) (look ! 21 refl)) (no-more !))) (λ u.
+        calls-at ! fm (Judge 𝓤 H A mem run) known-judge (to-judge ν δ)
+        (and-then ! (load ! (from ! (stop !)) (look ! 15 refl)) (and-then ! (load ! (from ! (stop !)) (look ! 21 refl)) (no-more !))) (λ u.
         use1 W (judged-as ν δ u) (id⊢ 𝓤 _) $ await ! tt $ pick ! (λ r.
         split ! $ move ! (1 ∷ []) $ use1 W (raw (fact 𝓤 (r ≡ tray))) (judge-said ν δ r) $ heard ! (r ≡ tray) (λ e.
         split ! $ move ! (1 ∷ []) $ facts ! D.the-row (Is D.the-row) (shows 𝓤 H A D.the-row) r (u ∷ []) (λ is.
@@ -222,18 +227,21 @@ module _ {M : Type 1} (𝓤 : URA M) (H : Heap 𝓤) (A : Atoms 𝓤) (W : Given
         -- [ν is over; the list's token and true; the list; what is kept of the table; true; the states' token; true; the states; _10; …]: the table comes back
         move ! (0 ∷ 3 ∷ []) $ use2 W (later (‵ Table ⊛ ‵ (flft κ q)))
         (shared-again u32 κ (ν ∷ []) q γ bt ot 𝓤 H A W (named 0) (named 0) ts gt) $ await ! tt $ split ! $
-        -- [the table; its token; the list's token and true; the list; true; the states' token; true; the states; _10; …; _9; …; _8; …; _7; …; _6; …; _5; …; _4; …; _3; …; _2; …; _1; …; _0; …]
+        -- [the table; its token; the list's token and true; the list; true; the states' token; true; the states; _10; …; _9; …; …; _0; …]
         assigns ! (addr ! (from ! (fld ! refl (hop ! (look-in ! 26 (sub ! 0 refl (whole !))) (stop !))))) (from ! (stop !)) (init ! 14 refl (tt, tt)) $
-        assigns ! (agg ! (and-then ! (load ! (from ! (stop !)) (look ! 14 refl)) (and-then ! (load ! (from ! (fld ! refl (stop !))) (look-in ! 26 (sub ! 1 refl (whole !)))) (no-more !))))
+        assigns ! (agg ! (and-then ! (load ! (from ! (stop !)) (look ! 14 refl))
+        (and-then ! (load ! (from ! (fld ! refl (stop !))) (look-in ! 26 (sub ! 1 refl (whole !)))) (no-more !))))
         (from ! (stop !)) (init ! 12 refl (tt, (tt, (record { fits = gt .0 }, tt)))) $
         assigns ! (addr ! (from ! (fld ! refl (hop ! (look-in ! 24 (sub ! 0 refl (whole !))) (stop !))))) (from ! (stop !)) (init ! 10 refl (tt, tt)) $
-        assigns ! (agg ! (and-then ! (load ! (from ! (stop !)) (look ! 10 refl)) (and-then ! (load ! (from ! (fld ! refl (stop !))) (look-in ! 24 (sub ! 1 refl (whole !)))) (no-more !))))
+        assigns ! (agg ! (and-then ! (load ! (from ! (stop !)) (look ! 10 refl))
+        (and-then ! (load ! (from ! (fld ! refl (stop !))) (look-in ! 24 (sub ! 1 refl (whole !)))) (no-more !))))
         (from ! (stop !)) (init ! 8 refl (tt, (tt, (record { fits = gs .0 }, tt)))) $
         move ! (1 ∷ 5 ∷ []) $ join ! $ move ! (0 ∷ 1 ∷ 6 ∷ []) $
         use3 W (raw (Carry 𝓤 H A mem run .pre to-carry)) (goes-carry (tray-is r _ u is e)) $
         -- [what `carry_out_at_desk` asks; the list's token and true; the list; true; true; _10; …]
         calls-at ! fm (Carry 𝓤 H A mem run) known-carry to-carry
-        (and-then ! (load ! (from ! (stop !)) (look ! 9 refl)) (and-then ! (load ! (from ! (stop !)) (look ! 5 refl)) (and-then ! (load ! (from ! (stop !)) (look ! 17 refl)) (no-more !)))) (λ w.
+        (and-then ! (load ! (from ! (stop !)) (look ! 9 refl)) (and-then ! (load ! (from ! (stop !)) (look ! 5 refl))
+        (and-then ! (load ! (from ! (stop !)) (look ! 17 refl)) (no-more !)))) (λ w.
         use1 W (carried-as w) (id⊢ 𝓤 _) $ await ! tt $ pick ! (λ a.
         split ! $ move ! (1 ∷ []) $ use1 W (ended-as a) (id⊢ 𝓤 _) $ pick ! (λ zs.
         split ! $ move ! (1 ∷ []) $ heard ! (outcome a (deskOf (zs .0) (zs .1 .0)) ≡ carried) (λ done-so.
@@ -251,7 +259,8 @@ module _ {M : Type 1} (𝓤 : URA M) (H : Heap 𝓤) (A : Atoms 𝓤) (W : Given
         -- [the states' token; true; the table's token; the answer; the last states; …; the last words; the list's token and true; the list; …]
         keep ! (2 ∷ 0 ∷ 7 ∷ 6 ∷ 4 ∷ 8 ∷ 3 ∷ []) $ by ! (exits a w (zs .0) (zs .1 .0) done-so len len′))))))))))))))
 
-  module _ (𝓣 : Tables 𝓤 H) (fm : FmC 𝓤 H (W .laws) (𝓣 .C)) (known-judge : Triple 𝓤 (𝓣 .C #judge) (Judge 𝓤 H A mem run)) (known-carry : Triple 𝓤 (𝓣 .C #carry) (Carry 𝓤 H A mem run)) where
+  module _ (𝓣 : Tables 𝓤 H) (fm : FmC 𝓤 H (W .laws) (𝓣 .C)) (known-judge : Triple 𝓤 (𝓣 .C #judge) (Judge 𝓤 H A mem run))
+      (known-carry : Triple 𝓤 (𝓣 .C #carry) (Carry 𝓤 H A mem run)) where
     walk : ent 𝓤 (onEntry 𝓤 H A desk-withdraw-tray.signature (κ, (σ, (ι, tt))) (q, (o, (p, tt))) x at)
         (WpFn 𝓤 H (𝓣 .C) (𝓣 .Λ) code.function (tableVal ∷ statesVal ∷ listVal ∷ []) Post)
     walk =
@@ -274,8 +283,13 @@ module _ {M : Type 1} (𝓤 : URA M) (H : Heap 𝓤) (A : Atoms 𝓤) (W : Given
       (are .0 .0 .1) (are .1 .0 .0 .1) (are .1 .1 .0 .0 .1) 𝓣 (fmOf 𝓤 H (W .laws) 𝓣) known-judge known-carry))
 
   meets : Meets 𝓤 H A desk-withdraw-tray.signature (WpFn 𝓤 H (𝓣 .C) (𝓣 .Λ) code.function) (desk-withdraw-tray.spec 𝓤 H A mem run)
-  meets = walk-meets 𝓤 H A desk-withdraw-tray.ended stayed W
-      (goes-gave-slice 𝓤 H A W 3 0 tt (plain (λ _. u32)), (goes-gave-slice 𝓤 H A W 3 1 tt (plain (λ _. u32)), (goes-none-slice 𝓤 H A W 3 (2 ∷ []) tt (plain (λ _. T.the-row)) yes, tt)))
+  meets = walk-meets 𝓤 H A desk-withdraw-tray.ended stayed W (
+    goes-gave-slice 𝓤 H A W 3 0 tt (plain (λ _. u32)),
+    (
+      goes-gave-slice 𝓤 H A W 3 1 tt (plain (λ _. u32)),
+      (goes-none-slice 𝓤 H A W 3 (2 ∷ []) tt (plain (λ _. T.the-row)) yes, tt),
+    ),
+  )
       (desk-withdraw-tray.clauses 𝓤 H A mem run) (WpFn 𝓤 H (𝓣 .C) (𝓣 .Λ) code.function) (WpFn-mono 𝓤 H (W .laws) 𝓣 code.function) walks
 
 pub desk-withdraw-tray-spec : {M : Type 1} → stated.statement M

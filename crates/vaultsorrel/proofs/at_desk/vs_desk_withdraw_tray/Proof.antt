@@ -125,7 +125,8 @@ module _ {M : Type 1} (𝓤 : URA M) (H : Heap 𝓤) (A : Atoms 𝓤) (W : Given
       → ent 𝓤 (⋆ 𝓤 H A (Tokens ∷ ‵ (finally u32 (t .name) zs) ∷ ‵ (finally u32 (s .name) ss) ∷ ‵ Records ∷ ‵ (P.the-row .own r (w ∷ [])) ∷ [])) (Post w)
   exits r w zs ss e len len′ =
       qed W (Tokens ∷ ‵ (finally u32 (t .name) zs) ∷ ‵ (finally u32 (s .name) ss) ∷ ‵ Records ∷ ‵ (P.the-row .own r (w ∷ [])) ∷ []) ∵
-      suffices ! _ (ends-at 𝓤 H A vs-desk-withdraw-tray.ended stayed (vs-desk-withdraw-tray.clauses 𝓤 H A mem run) W (((κ, (σ, (ι, tt))), (q, (o, (p, tt))), tt, x, at), tt) w r
+      suffices ! _ (ends-at 𝓤 H A vs-desk-withdraw-tray.ended stayed (vs-desk-withdraw-tray.clauses 𝓤 H A mem run) W
+      (((κ, (σ, (ι, tt))), (q, (o, (p, tt))), tt, x, at), tt) w r
       (zs, (ss, (tt, tt))) (len, (len′, (tt, tt)))) $ says ! e $
       frame ! $ nothing ! $ move ! (3 ∷ 0 ∷ []) $ fjoin ! $ move ! (2 ∷ 0 ∷ []) $ fjoin ! $ move ! (1 ∷ 0 ∷ []) $ fjoin ! $ frame ! $ done !
 
@@ -189,15 +190,18 @@ module _ {M : Type 1} (𝓤 : URA M) (H : Heap 𝓤) (A : Atoms 𝓤) (W : Given
       begins : Sq W Entered (runs (𝓣 .C) (𝓣 .Λ) En (code.function .body) (atRet En Post))
       begins =
           assigns ! (addr ! (from ! (fld ! refl (hop ! (look-in ! 14 (sub ! 0 refl (whole !))) (stop !))))) (from ! (stop !)) (init ! 6 refl (tt, tt)) $
-          assigns ! (agg ! (and-then ! (load ! (from ! (stop !)) (look ! 6 refl)) (and-then ! (load ! (from ! (fld ! refl (stop !))) (look-in ! 14 (sub ! 1 refl (whole !)))) (no-more !))))
+          assigns ! (agg ! (and-then ! (load ! (from ! (stop !)) (look ! 6 refl))
+          (and-then ! (load ! (from ! (fld ! refl (stop !))) (look-in ! 14 (sub ! 1 refl (whole !)))) (no-more !))))
           (from ! (stop !)) (init ! 4 refl (tt, (tt, (record { fits = gt .0 }, tt)))) $
           assigns ! (addr ! (from ! (fld ! refl (hop ! (look-in ! 12 (sub ! 0 refl (whole !))) (stop !))))) (from ! (stop !)) (init ! 2 refl (tt, tt)) $
-          assigns ! (agg ! (and-then ! (load ! (from ! (stop !)) (look ! 2 refl)) (and-then ! (load ! (from ! (fld ! refl (stop !))) (look-in ! 12 (sub ! 1 refl (whole !)))) (no-more !))))
+          assigns ! (agg ! (and-then ! (load ! (from ! (stop !)) (look ! 2 refl))
+          (and-then ! (load ! (from ! (fld ! refl (stop !))) (look-in ! 12 (sub ! 1 refl (whole !)))) (no-more !))))
           (from ! (stop !)) (init ! 0 refl (tt, (tt, (record { fits = gs .0 }, tt)))) $
           move ! (18 ∷ 19 ∷ []) $ use2 W (raw (Withdraw 𝓤 H A mem run .pre to-withdraw) ⊛ ‵ Records) goes-withdraw $ split ! $
           -- [what `desk_withdraw_tray` asks; the list; _8; …]
           calls-at ! fm (Withdraw 𝓤 H A mem run) known-withdraw to-withdraw
-          (and-then ! (load ! (from ! (stop !)) (look ! 6 refl)) (and-then ! (load ! (from ! (stop !)) (look ! 2 refl)) (and-then ! (load ! (from ! (stop !)) (look ! 12 refl)) (no-more !)))) (λ u.
+          (and-then ! (load ! (from ! (stop !)) (look ! 6 refl)) (and-then ! (load ! (from ! (stop !)) (look ! 2 refl))
+          (and-then ! (load ! (from ! (stop !)) (look ! 12 refl)) (no-more !)))) (λ u.
           use1 W (withdrawn-as u) (id⊢ 𝓤 _) $ await ! tt $ pick ! (λ a.
           split ! $ move ! (1 ∷ []) $ use1 W (ended-as a) (id⊢ 𝓤 _) $ pick ! (λ zs.
           split ! $ move ! (1 ∷ []) $ heard ! (outcome a (deskOf (zs .0) (zs .1 .0)) ≡ promised) (λ e.
@@ -239,8 +243,13 @@ module _ {M : Type 1} (𝓤 : URA M) (H : Heap 𝓤) (A : Atoms 𝓤) (W : Given
       (are .0 .0 .1) (are .1 .0 .0 .1) (are .1 .1 .0 .0 .1) 𝓣 (fmOf 𝓤 H (W .laws) 𝓣) known-withdraw known-reply))
 
   meets : Meets 𝓤 H A vs-desk-withdraw-tray.signature (WpFn 𝓤 H (𝓣 .C) (𝓣 .Λ) code.function) (vs-desk-withdraw-tray.spec 𝓤 H A mem run)
-  meets = walk-meets 𝓤 H A vs-desk-withdraw-tray.ended stayed W
-      (goes-gave-slice 𝓤 H A W 3 0 tt (plain (λ _. u32)), (goes-gave-slice 𝓤 H A W 3 1 tt (plain (λ _. u32)), (goes-none-slice 𝓤 H A W 3 (2 ∷ []) tt (plain (λ _. T.the-row)) yes, tt)))
+  meets = walk-meets 𝓤 H A vs-desk-withdraw-tray.ended stayed W (
+    goes-gave-slice 𝓤 H A W 3 0 tt (plain (λ _. u32)),
+    (
+      goes-gave-slice 𝓤 H A W 3 1 tt (plain (λ _. u32)),
+      (goes-none-slice 𝓤 H A W 3 (2 ∷ []) tt (plain (λ _. T.the-row)) yes, tt),
+    ),
+  )
       (vs-desk-withdraw-tray.clauses 𝓤 H A mem run) (WpFn 𝓤 H (𝓣 .C) (𝓣 .Λ) code.function) (WpFn-mono 𝓤 H (W .laws) 𝓣 code.function) walks
 
 pub vs-desk-withdraw-tray-spec : {M : Type 1} → stated.statement M
