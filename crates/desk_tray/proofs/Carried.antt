@@ -1,14 +1,13 @@
 -- What carrying out a judged tray at the desk leaves is what the tray asks for there. Assumes nothing.
-use mathlib.Core.Path.{_≡_, refl, sym, ap, _∙_, subst}
+use mathlib.Core.Path.{_≡_, refl, sym, ap, subst}
 use mathlib.Core.Bool.{Bool, false, not}
 use mathlib.Core.List.{List, map}
-use Prim.Native.Nat.{ℕ, zero, suc, _≤_}
+use Prim.Native.Nat.{ℕ, zero, suc}
 use lib.Dec.{eqb}
-use lib.ListN.{length, take}
-use borrow.Author.Tests.{not-false}
+use lib.ListN.{take}
 use Rattle.lists.proofs.Cases.{clash}
 use Rattle.layout.specs.declared.Answer.{Answer}
-use Rattle.layout.specs.Layout.{limit, vertexLimit, size, vertexCount}
+use Rattle.layout.specs.Layout.{vertexCount}
 use Rattle.layout.specs.Inner.{vertexColumn}
 use Rattle.layout.specs.Answers.{Result, result}
 use Rattle.removals.specs.Removals.{staysVertex}
@@ -24,7 +23,6 @@ use Rattle.desk.specs.Desk.{deskOf, outcome, edited, deskEdit}
 use Rattle.desk.proofs.Edits.{liveAfter, edit-went, edit-unformed, edit-refused}
 use Rattle.desk_states.specs.Open.{isOpen}
 use Rattle.desk_states.specs.Following.{Noted, followed, Followable}
-use Rattle.desk_states.proofs.Open.{open-sized, open-few}
 use Rattle.desk_states.proofs.Removed.{Removes, removed-left, removed-edited}
 use Rattle.desk_tray.specs.Judged.{Judged}
 
@@ -52,14 +50,7 @@ tray-removes ws rs = record {
   kept = λ f. edit-went ws f (withdraw rs) .live;
 }
 
--- ---- for `search`: b is what `is_open` found, and the code tested `!b`
-
-module _ (ws ss : List ℕ) (b : Bool) (eb : b ≡ isOpen (deskOf ws ss)) (hb : not b ≡ false) where
-  pub table-sized : length ws ≡ size limit
-  table-sized = open-sized (deskOf ws ss) (sym eb ∙ not-false b hb)
-
-  pub vertices-few : vertexCount ws ≤ vertexLimit
-  vertices-few = open-few (deskOf ws ss) (sym eb ∙ not-false b hb)
+-- ---- for `search`
 
 module _ (tray : Tray) (ws : List ℕ) (j : Judged tray ws) where
   pub judged-formed : OpenFormed tray ws
@@ -68,7 +59,8 @@ module _ (tray : Tray) (ws : List ℕ) (j : Judged tray ws) where
   carried-removes : Removes ws (carriedOut tray ws)
   carried-removes = rw (j .judged, carried-tray ws (j .records)) (tray-removes ws (j .records))
 
-  -- n is what `vertex_count` found, numbers what `note_numbers` did, and then `carry_out` answered a and left the words left
+  -- b is what `is_open` found, and the code tested `!b`; n is what `vertex_count` found, numbers what `note_numbers` did; then `carry_out` answered a
+  -- and left the words left
   module _ (ss : List ℕ) (b : Bool) (eb : b ≡ isOpen (deskOf ws ss)) (hb : not b ≡ false) (n : ℕ) (en : n ≡ vertexCount ws)
       (numbers : List ℕ) (noted : Noted ws numbers) (a : Answer) (left : List ℕ) (er : result a left ≡ carriedOut tray ws) where
     pub carried-left : Followable a numbers n left ss

@@ -1,6 +1,7 @@
 -- `desk_tray::carry_out_at_desk` meets its contract. Assumes nothing.
+use Rattle.desk_states.proofs.Open.{sized-when-open, few-when-open}
 use Rattle.desk_states.proofs.Removed.{shut-edited}
-use Rattle.desk_tray.proofs.Carried.{table-sized, vertices-few, judged-formed, carried-left, carried-edited}
+use Rattle.desk_tray.proofs.Carried.{judged-formed, carried-left, carried-edited}
 use borrow.Author.Needs.{needs}
 use Rattle.desk_tray.proofs.carry_out_at_desk.Statement.{statement}
 use Rattle.desk_tray.proofs.carry_out_at_desk.Tie as tie
@@ -18,10 +19,10 @@ returns : tie.Need-returns
 returns c = search shut-edited
 
 vertex-count-requires : tie.Need-vertex-count-requires
-vertex-count-requires c κs = search table-sized
+vertex-count-requires c κs = search sized-when-open
 
 note-numbers-requires : tie.Need-note-numbers-requires
-note-numbers-requires c κs = (search table-sized, search vertices-few)
+note-numbers-requires c κs = (search sized-when-open, search few-when-open)
 
 carry-out-requires : tie.Need-carry-out-requires
 carry-out-requires c κs = search judged-formed
