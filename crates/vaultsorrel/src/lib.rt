@@ -24,6 +24,8 @@ use layout::Reply;
 use layout::VertexIndex;
 use trays::Withdrawal;
 
+pub mod at_desk;
+
 // ---- Edits
 
 // Adds a vertex with the next number, which the answer tells.

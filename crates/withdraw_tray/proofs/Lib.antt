@@ -1,3 +1,3 @@
 pub mod Carried
 pub mod Values
-mod Shared
+pub mod Shared
