@@ -5,12 +5,11 @@ use mathlib.Core.List.{List, [], _∷_}
 use Prim.Native.Nat.{ℕ, zero, suc, _≤_, _<_}
 use native.Mathlib.Omega.{arith}
 use lib.Dec.{eqb}
-use lib.ListN.{length, set, length-set, List·getD-eq-default}
+use lib.ListN.{length, set, length-set}
 use lib.Seq.{getD-set-same, getD-set-other, drop-set-lt}
-use borrow.Author.Tests.{eqb-true, eq-eqb, ne-eqb, ltb-true, lt-ltb}
+use borrow.Author.Tests.{eqb-true, eq-eqb, ne-eqb, lt-ltb}
 use Rattle.lists.specs.Lists.{all, any, isBelow, zeros, wordAt}
-use Rattle.lists.proofs.Cases.{on, on-same, on-below, clash, or-false-left, or-false-right, and-left, and-right, and-both}
-use Rattle.lists.proofs.All.{all-at}
+use Rattle.lists.proofs.Cases.{on, on-same, clash, or-false-left, or-false-right, and-left, and-right, and-both}
 use Rattle.layout.specs.declared.Found.{Found}
 use Rattle.layout.specs.declared.Found.the-variants.{At, Nothing}
 use Rattle.layout.specs.declared.Answer.{Answer}
@@ -102,19 +101,6 @@ module _ (t : Table) (ss : List ℕ) (v : ℕ) (live : isLive (liveVertices t) v
   pub released-other : (u : ℕ) → (u ≡ v → ⊥) → inState t (withState t v released ss) released u ≡ inState t ss released u
   unfolding inState
   released-other u ne = rw (state-other t ss v released live u ne)
-
--- ---- states that fit are 0, 1 and 2
-
-small-at : (ss : List ℕ) (p : Found) → all (isBelow (suc released)) ss ≡ true → stateAt p ss < suc released
-small-at ss Nothing fits = omega arith
-small-at ss (At i) fits =
-    on-below i (length ss)
-    (λ l. ltb-true _ _ (all-at (isBelow (suc released)) ss i 0 fits l))
-    (λ l. rw (List·getD-eq-default ss 0 {n = i} l) (omega arith))
-
-pub state-small : (t : Table) (ss : List ℕ) (n v : ℕ) → statesFit n ss ≡ true → stateOf t ss v < suc released
-unfolding statesFit stateIn
-state-small t ss n v fits = small-at ss (position v (liveVertices t)) (and-left _ _ (and-right _ _ fits))
 
 -- ---- a desk that fits
 

@@ -27,9 +27,11 @@ use Rattle.desk.specs.States.{waiting, reviewed, released, stateOf, inState, wi
 use Rattle.desk.specs.Desk.{Desk, deskOf, Outcome, outcome, content, deskFits}
 use Rattle.desk.specs.Releases.{onceReviewed, holds}
 use Rattle.desk.specs.Calls.{DeskCall, review, release, signed, deskCall, afterDesk}
-use Rattle.desk.proofs.Signing.{Free, state-small, state-set, state-other, state-reviewed, released-set, released-kept, fits-formed, fits-states, fits-room, signed-fits, review-done, release-again, release-first}
+use Rattle.desk.proofs.States.{state-below}
+use Rattle.desk.proofs.Signing.{Free, state-set, state-other, state-reviewed, released-set, released-kept, fits-formed, fits-states, fits-room, signed-fits, review-done, release-again, release-first}
 use Rattle.desk_laws.specs.Kept.{Released}
 use Rattle.desk_laws.specs.Down.{Accepts, ForwardIn, AllDone, AllReviewed, AllReleased, pastWaiting, releases}
+use Rattle.desk_laws.proofs.Fits.{done-fits}
 use Rattle.desk_laws.proofs.Orders.{accepted-forward, forward-accepted}
 
 -- ---- a call that is done, and the others after it
@@ -47,10 +49,6 @@ module _ (c : DeskCall) (d e : Desk) (is : deskCall c d ≡ outcome (Done 0) e) 
 once-twice : (x : ℕ) → onceReviewed (onceReviewed x) ≡ onceReviewed x
 unfolding onceReviewed
 once-twice x = on (eqb x waiting) (λ e. rw e) (λ e. rw (e, e))
-
-once-small : (x : ℕ) → x < suc released → onceReviewed x < suc released
-unfolding onceReviewed
-once-small x h = on (eqb x waiting) (λ e. rw e (omega arith)) (λ e. rw e h)
 
 -- no state is waiting after a review
 once-past : (x : ℕ) → eqb (onceReviewed x) waiting ≡ false
@@ -79,7 +77,8 @@ module _ (d : Desk) (v : ℕ) (fits : deskFits d ≡ true) (live : isLive (liveV
   review-call = ap (signed d) (review-done d v fits live)
 
   review-fits : deskFits (afterReview d v) ≡ true
-  review-fits = signed-fits d fits v _ live (once-small _ (state-small (content d) (d .states) _ v (fits-states d fits)))
+  review-fits =
+      ap (λ (o : Outcome). deskFits (o .desk)) (sym review-call) ∙ done-fits (review v) d (ap (λ (o : Outcome). o .number) review-call)
 
   after-states : (u : ℕ)
       → stateOf (content d) (afterReview d v .states) u ≡ cond (eqb u v) (onceReviewed (stateOf (content d) (d .states) u)) (stateOf (content d) (d .states) u)
@@ -161,7 +160,7 @@ module _ (d : Desk) (v : ℕ) (fits : deskFits d ≡ true) (past : AllReviewed d
   unfolding inState holds
   free new up = record {
     before = new;
-    signed = between _ (state-small (content d) (d .states) _ v (fits-states d fits)) past-here new;
+    signed = between _ (state-below _ (liveVertices (content d)) (d .states) (fits-states d fits) v) past-here new;
     unheld = on (any (holds (content d) (d .states) v) (liveVertices (content d)))
         (λ e.
         let r = any-at (holds (content d) (d .states) v) (liveVertices (content d)) 0 e in

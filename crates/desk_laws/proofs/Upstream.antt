@@ -4,27 +4,25 @@ use mathlib.Core.Path.{_≡_, refl, sym, ap, _∙_}
 use mathlib.Core.Bool.{true, false, not}
 use mathlib.Core.List.{List, [], _∷_}
 use Prim.Native.Nat.{ℕ}
-use lib.ListN.{getD-replicate, length-replicate, List·getD-eq-default}
 use borrow.Author.Tests.{eqb-true, eqb-false, not-true}
 use Rattle.lists.specs.Tests.{_and_}
 use Rattle.lists.specs.Lists.{all, any, memb}
-use Rattle.lists.proofs.Cases.{on, on-same, on-below, clash, and-left, and-right, and-both}
+use Rattle.lists.proofs.Cases.{on, on-same, clash, and-left, and-right, and-both}
 use Rattle.lists.proofs.Any.{any-of}
 use Rattle.lists.proofs.Kept.{memb-filter}
 use Rattle.lists.proofs.Memb.{memb-at}
 use Rattle.walks.specs.Walks.{Reach, here, step}
-use Rattle.layout.specs.declared.Found.{Found}
-use Rattle.layout.specs.declared.Found.the-variants.{At, Nothing}
-use Rattle.layout.specs.Content.{liveVertices, isLive, position}
-use Rattle.layout.specs.Layout.{limit, vertexLimit}
+use Rattle.layout.specs.Content.{liveVertices, isLive}
+use Rattle.layout.specs.Layout.{limit}
 use Rattle.layout.specs.Steps.{StepIn}
 use Rattle.layout.specs.Answers.{number, Result}
 use Rattle.layout.proofs.Read.{formed-of}
 use Rattle.steps.proofs.Among.{steps-among}
-use Rattle.desk.specs.States.{waiting, reviewed, released, stateAt, stateIn, stateOf, inState, allWaiting}
+use Rattle.desk.specs.States.{reviewed, released, stateOf, inState, allWaiting}
 use Rattle.desk.specs.Desk.{Desk, deskOf, content, deskFits}
 use Rattle.desk.specs.Releases.{holds, isReleasable, releasable}
 use Rattle.desk.specs.Calls.{DeskCall, through, review, release, deskCall, afterDesk}
+use Rattle.desk.proofs.States.{waiting-all}
 use Rattle.desk.proofs.Signing.{Free, released-reviewed, released-kept, released-other, fits-formed, fits-room, review-goes, release-goes, release-first}
 use Rattle.desk_laws.specs.Kept.{Released, UpstreamReleased, signs}
 
@@ -97,16 +95,10 @@ pub none-upstream : (d : Desk) → ((v : ℕ) → Released d v → ⊥) → Upst
 none-upstream d none u v s e = absurd (none v e)
 
 -- as after a clear or the read of a text
-waiting-at : (p : Found) → stateAt p allWaiting ≡ waiting
-waiting-at Nothing = refl
-waiting-at (At i) = on-below i vertexLimit
-    (λ h. getD-replicate vertexLimit i waiting 0 h)
-    (λ h. List·getD-eq-default allWaiting 0 {n = i} (rw (length-replicate {A = ℕ} vertexLimit waiting) h))
-
 pub waiting-upstream : (d : Desk) → d .states ≡ allWaiting → UpstreamReleased d
-unfolding inState stateIn
+unfolding inState
 waiting-upstream d e =
-    none-upstream d (λ v r. clash r (rw (e, waiting-at (position v (liveVertices (content d))))))
+    none-upstream d (λ v r. clash r (rw (e, waiting-all (liveVertices (content d)) v)))
 
 -- ---- what is shown as releasable is what a release would release now
 
