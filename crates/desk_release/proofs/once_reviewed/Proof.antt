@@ -1,0 +1,16 @@
+use Rattle.desk_release.proofs.Reviewed.{waits-no-more, stays}
+use Rattle.desk_release.proofs.once_reviewed.Statement.{statement}
+use Rattle.desk_release.proofs.once_reviewed.Tie as tie
+use Rattle.desk_release.proofs.once_reviewed.Reads as reads
+use Rattle.desk_release.proofs.once_reviewed.Lts as lts
+
+-- src/lib.rt:35:1
+returns : tie.Need-returns
+returns c = search waits-no-more
+
+-- src/lib.rt:35:1
+returns-2 : tie.Need-returns-2
+returns-2 c = search stays
+
+pub once-reviewed-spec : {M : Type 1} → statement M
+once-reviewed-spec = tie.close (tie.spec returns returns-2)
