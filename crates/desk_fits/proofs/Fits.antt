@@ -4,11 +4,9 @@ use mathlib.Core.Bool.{Bool, true, false, not}
 use mathlib.Core.List.{List}
 use Prim.Native.Nat.{ℕ, _≤_}
 use native.Mathlib.Omega.{arith}
-use lib.Dec.{eqb}
 use lib.ListN.{length}
-use borrow.Author.Tests.{not-true, not-false, eqb-true}
+use borrow.Author.Tests.{not-true, not-false}
 use Rattle.lists.specs.Tests.{_and_}
-use Rattle.lists.proofs.Cases.{and-left, and-right}
 use Rattle.layout.specs.declared.Answer.the-variants.{NotWellFormed}
 use Rattle.layout.specs.Content.{Table}
 use Rattle.layout.specs.Layout.{limit, vertexLimit, vertexCount, read}
@@ -19,6 +17,8 @@ use Rattle.layout.proofs.Read.{formed-of, live-length}
 use Rattle.desk.specs.States.{statesFit}
 use Rattle.desk.specs.Desk.{deskOf, deskFits}
 use Rattle.desk.specs.Releases.{onDesk}
+use Rattle.desk.proofs.States.{states-fit-of}
+use Rattle.desk.proofs.Signing.{fits-formed, fits-states}
 
 -- ---- the test is made: r is what `well_formed` returned, n what `vertex_count` returned
 
@@ -40,13 +40,11 @@ module _ (ws ss : List ℕ) (r : Bool) (e : r ≡ wellFormed limit ws) where
 
 module _ (ws ss : List ℕ) (r : Bool) (e : r ≡ deskFits (deskOf ws ss)) where
   pub formed-by-desk : not r ≡ false → Formed limit ws
-  unfolding deskFits
-  formed-by-desk h = formed-of limit ws (and-left _ _ (sym e ∙ not-false r h))
+  formed-by-desk h = formed-of limit ws (fits-formed (deskOf ws ss) (sym e ∙ not-false r h))
 
   -- there is a state for each record
   pub long-by-desk : not r ≡ false → length ss ≡ vertexLimit
-  unfolding deskFits statesFit
-  long-by-desk h = eqb-true (length ss) vertexLimit (and-left _ _ (and-right _ _ (sym e ∙ not-false r h)))
+  long-by-desk h = states-fit-of (fits-states (deskOf ws ss) (sym e ∙ not-false r h)) .sized
 
   pub on-misfit : (lent : List ℕ) (f : Table → Result) → not r ≡ true → result NotWellFormed lent ≡ onDesk (deskOf ws ss) lent f
   unfolding onDesk

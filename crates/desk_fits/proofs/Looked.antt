@@ -1,17 +1,16 @@
 -- The state of a vertex, by its record. Assumes nothing.
-use mathlib.Core.Path.{_≡_, refl, sym, ap}
+use mathlib.Core.Path.{_≡_, ap}
 use mathlib.Core.List.{List}
 use Prim.Native.Nat.{ℕ, _<_}
 use lib.Dec.{eqb}
 use lib.ListN.{length, getD, set}
 use Rattle.lists.specs.Lists.{Ascending, wordAt}
-use Rattle.layout.specs.declared.Found.{Found}
 use Rattle.layout.specs.declared.Found.the-variants.{At}
-use Rattle.layout.specs.Content.{Table, liveVertices, position, place}
-use Rattle.layout.proofs.Position.{position-here}
-use Rattle.desk.specs.States.{stateAt, stateIn, stateOf, inState, withState}
+use Rattle.layout.specs.Content.{Table, liveVertices, position}
+use Rattle.desk.specs.States.{stateIn, stateOf, inState, withState}
+use Rattle.desk.proofs.States.{state-at}
 
--- p is what a search for v found
+-- the record of v is i
 module _ (t : Table) (ss : List ℕ) (v i : ℕ) (e : position v (liveVertices t) ≡ At i) where
   pub state-found : stateOf t ss v ≡ wordAt ss i
   unfolding stateIn
@@ -28,4 +27,5 @@ module _ (t : Table) (ss : List ℕ) (v i : ℕ) (e : position v (liveVertices t
 -- the vertex of record k
 pub in-state-at : (t : Table) (ss : List ℕ) (k : ℕ) → Ascending (liveVertices t) → k < length (liveVertices t) → (x : ℕ)
     → inState t ss x (getD (liveVertices t) k 0) ≡ eqb (wordAt ss k) x
-in-state-at t ss k asc h x = in-state-found t ss (getD (liveVertices t) k 0) k (sym (position-here (getD (liveVertices t) k 0) (liveVertices t) k asc h refl)) x
+unfolding inState
+in-state-at t ss k asc h x = ap (λ (y : ℕ). eqb y x) (state-at (liveVertices t) ss k asc h)

@@ -1,8 +1,8 @@
 -- What the desk shows: the state of a vertex, and the vertices that the marks pick. Assumes nothing.
-use mathlib.Core.Path.{_≡_, refl, sym, ap, ap₂, _∙_}
+use mathlib.Core.Path.{_≡_, sym, ap, ap₂, _∙_}
 use mathlib.Core.Bool.{Bool, not}
 use mathlib.Core.List.{List, []}
-use Prim.Native.Nat.{ℕ, _≤_, _<_}
+use Prim.Native.Nat.{ℕ, _<_}
 use native.Mathlib.Omega.{arith}
 use lib.ListN.{length, getD}
 use Rattle.lists.specs.Tests.{_and_}
@@ -14,7 +14,6 @@ use Rattle.layout.specs.declared.Answer.the-variants.{Done}
 use Rattle.layout.specs.Content.{liveVertices, position}
 use Rattle.layout.specs.Layout.{limit, vertexLimit, vertexCount, read}
 use Rattle.layout.specs.Inner.{Formed}
-use Rattle.layout.specs.Steps.{hasStep}
 use Rattle.layout.specs.Answers.{Result, result, vertexMissing, listed}
 use Rattle.layout.proofs.Read.{live-length, live-ascends, vertex-found}
 use Rattle.layout.proofs.Answers.{on-found}

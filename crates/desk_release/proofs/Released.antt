@@ -1,14 +1,14 @@
 -- What a release answers and leaves. Assumes nothing.
 use mathlib.Core.Path.{_≡_, refl, sym, ap, ap₂, _∙_}
-use mathlib.Core.Bool.{Bool, true, false, not, cond, _||_}
+use mathlib.Core.Bool.{Bool, true, false, not, _||_}
 use mathlib.Core.List.{List}
-use Prim.Native.Nat.{ℕ, _≤_, _<_}
+use Prim.Native.Nat.{ℕ, _<_}
 use native.Mathlib.Omega.{arith}
 use lib.Dec.{eqb}
 use lib.ListN.{length, getD, set}
 use borrow.Author.Tests.{eq-eqb, ne-eqb, not-true, not-false}
 use Rattle.lists.specs.Tests.{_and_}
-use Rattle.lists.specs.Lists.{any, tab, upTo, wordAt}
+use Rattle.lists.specs.Lists.{upTo, wordAt}
 use Rattle.lists.proofs.Flat.{tab-getD}
 use Rattle.layout.specs.declared.VertexIndex.{VertexIndex}
 use Rattle.layout.specs.declared.Found.{Found}
@@ -20,15 +20,14 @@ use Rattle.layout.specs.Inner.{Formed}
 use Rattle.layout.specs.Steps.{hasStep}
 use Rattle.layout.specs.Answers.{Result, result}
 use Rattle.layout.proofs.Read.{live-length, live-at, live-ascends, vertex-found}
-use Rattle.edits.specs.Results.{onFirst, firstPassing}
+use Rattle.edits.specs.Results.{firstPassing}
 use Rattle.edits.proofs.Passing.{on-first-passing, on-none-first}
-use Rattle.marks.specs.Marks.{isMarked}
 use Rattle.lookups.specs.declared.Direction.the-variants.{To}
 use Rattle.lookups.specs.declared.Relation.the-variants.{Along}
 use Rattle.lookups.specs.Lookups.{relates, isRelated}
 use Rattle.lookups.specs.State.{noMarks, MarkedBy}
 use Rattle.lookups.proofs.Marking.{no-mark}
-use Rattle.desk.specs.States.{reviewed, released, inState, withState}
+use Rattle.desk.specs.States.{reviewed, released, withState}
 use Rattle.desk.specs.Releases.{holds, upstreamHeld, onReviewed, onUnheld, releasing}
 use Rattle.desk_fits.proofs.Looked.{in-state-found, in-state-at, with-state-found}
 use Rattle.desk_fits.proofs.Passing.{first-same}
@@ -56,9 +55,9 @@ module _ (ws ss : List ℕ) (v : ℕ) (f : Formed limit ws) (marks : List Bool)
   unfolding heldAt holds
   held-holds k h =
       let l : k < length (liveVertices (read limit ws)) = rw live-length h in
+      let u = getD (liveVertices (read limit ws)) k 0 in
       ap₂ (λ (m x : Bool). m and not x)
-      (b .each k l ∙ ap (λ (m : Bool). m || isRelated (Along To) (read limit ws) v (getD (liveVertices (read limit ws)) k 0)) (no-mark k (omega (arith, f .shape .vertices-le)))
-      ∙ steps-into (getD (liveVertices (read limit ws)) k 0))
+      (b .each k l ∙ ap (λ (m : Bool). m || isRelated (Along To) (read limit ws) v u) (no-mark k (omega (arith, f .shape .vertices-le))) ∙ steps-into u)
       (sym (in-state-at (read limit ws) ss k (live-ascends limit ws f) l released))
 
   -- n is what `vertex_count` returned, s what `first_held` returned

@@ -1,6 +1,6 @@
 // Review and release of a vertex.
 ghost use mathlib.Core.Path.{_≡_};
-ghost use mathlib.Core.Bool.{not, cond};
+ghost use mathlib.Core.Bool.{not};
 ghost use Prim.Native.Nat.{_<_, _≤_};
 ghost use lib.Dec.{eqb};
 ghost use lib.ListN.{length, set};
@@ -13,9 +13,9 @@ ghost use Rattle.layout.specs.Layout.{limit, vertexLimit, read};
 ghost use Rattle.layout.specs.Inner.{Formed};
 ghost use Rattle.layout.specs.Answers.{result};
 ghost use Rattle.edits.specs.Results.{firstPassing};
-ghost use Rattle.desk.specs.States.{released, inState, withState};
+ghost use Rattle.desk.specs.States.{released};
 ghost use Rattle.desk.specs.Desk.{deskOf};
-ghost use Rattle.desk.specs.Releases.{onDesk, onceReviewed, reviewResult, onUnheld, releasing, releaseResult};
+ghost use Rattle.desk.specs.Releases.{onDesk, onceReviewed, reviewResult, releaseResult};
 ghost use Rattle.desk_release.specs.Held.{heldAt, releaseReviewedResult, releaseLiveResult};
 use desk_fits::desk_fits;
 use layout::Answer;

@@ -1,25 +1,18 @@
+-- `desk_looks::desk_state` meets its contract. Assumes nothing.
 use Rattle.desk_fits.proofs.Fits.{formed-by-desk, long-by-desk, on-misfit, on-desk}
 use borrow.Author.Needs.{needs}
 use Rattle.desk_looks.proofs.desk_state.Statement.{statement}
 use Rattle.desk_looks.proofs.desk_state.Tie as tie
-use Rattle.desk_looks.proofs.desk_state.Reads as reads
-use Rattle.desk_looks.proofs.desk_state.Lts as lts
-use Rattle.desk_fits.proofs.desk_fits.Reads as desk-fits-reads
-use Rattle.desk_looks.proofs.state_formed.Reads as state-formed-reads
 
--- src/lib.rt:51:9
 desk-fits-requires : tie.Need-desk-fits-requires
 desk-fits-requires c κs = search needs
 
--- src/lib.rt:52:9
 returns : tie.Need-returns
 returns c = search on-misfit
 
--- src/lib.rt:54:5
 state-formed-requires : tie.Need-state-formed-requires
 state-formed-requires c κs = (search formed-by-desk, search long-by-desk)
 
--- src/lib.rt:48:1
 returns-2 : tie.Need-returns-2
 returns-2 c = search on-desk
 

@@ -1,14 +1,11 @@
+-- `desk_looks::either` meets its contract. Assumes nothing.
 use Rattle.desk_looks.proofs.Marking.{either-marked, either-same}
 use Rattle.desk_looks.proofs.either.Statement.{statement}
 use Rattle.desk_looks.proofs.either.Tie as tie
-use Rattle.desk_looks.proofs.either.Reads as reads
-use Rattle.desk_looks.proofs.either.Lts as lts
 
--- src/lib.rt:95:9
 returns : tie.Need-returns
 returns c = search either-marked
 
--- src/lib.rt:91:1
 returns-2 : tie.Need-returns-2
 returns-2 c = search either-same
 

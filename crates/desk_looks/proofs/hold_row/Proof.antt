@@ -1,3 +1,4 @@
+-- `desk_looks::hold_row` meets its contract. Assumes nothing.
 use mathlib.Core.Path.{_≡_}
 use Prim.Native.Nat.{_≤_, _-_}
 use lib.ListN.{length}
@@ -7,9 +8,6 @@ use Rattle.desk_looks.proofs.Marking.{Joining, joining-none, row-more, 
 use borrow.Author.Needs.{needs}
 use Rattle.desk_looks.proofs.hold_row.Statement.{statement}
 use Rattle.desk_looks.proofs.hold_row.Tie as tie
-use Rattle.desk_looks.proofs.hold_row.Reads as reads
-use Rattle.desk_looks.proofs.hold_row.Lts as lts
-use Rattle.desk_looks.proofs.either.Reads as either-reads
 
 abbrev Inv-loop : tie.InvT-loop
 Inv-loop m u held₀ k₀ held k = (k ≤ vertexLimit) × (length held ≡ vertexLimit) × Joining (matrix m u) k held₀ held
@@ -17,47 +15,36 @@ Inv-loop m u held₀ k₀ held k = (k ≤ vertexLimit) × (length held ≡ verte
 abbrev μ-loop : tie.MeasureT-loop
 μ-loop m u held₀ k₀ held k = vertexLimit - k
 
--- src/lib.rt:106:5
 loop-holds : tie.Need-loop-holds Inv-loop μ-loop
 loop-holds c = (search needs, search needs, search joining-none)
 
--- src/lib.rt:107:26
 element-copy-out-either : tie.Need-element-copy-out-either Inv-loop μ-loop
 element-copy-out-either c = search needs
 
--- src/lib.rt:107:37
 mul-either : tie.Need-mul-either Inv-loop μ-loop
 mul-either c = search needs
 
--- src/lib.rt:107:37
 add-either : tie.Need-add-either Inv-loop μ-loop
 add-either c = search needs
 
--- src/lib.rt:107:35
 element-copy-out-either-2 : tie.Need-element-copy-out-either-2 Inv-loop μ-loop
 element-copy-out-either-2 c = search needs
 
--- src/lib.rt:107:19
 either-requires : tie.Need-either-requires Inv-loop μ-loop
 either-requires c κs = search needs
 
--- src/lib.rt:107:9
 element-write-held : tie.Need-element-write-held Inv-loop μ-loop
 element-write-held c = search needs
 
--- src/lib.rt:108:9
 add-k : tie.Need-add-k Inv-loop μ-loop
 add-k c = search needs
 
--- src/lib.rt:106:5
 loop-less : tie.Need-loop-less Inv-loop μ-loop
 loop-less c = search needs
 
--- src/lib.rt:106:5
 loop-again : tie.Need-loop-again Inv-loop μ-loop
 loop-again c = (search needs, search needs, search row-more)
 
--- src/lib.rt:101:1
 returns : tie.Need-returns Inv-loop μ-loop
 returns c = search joining-end
 

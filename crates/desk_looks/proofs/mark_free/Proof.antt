@@ -1,3 +1,4 @@
+-- `desk_looks::mark_free` meets its contract. Assumes nothing.
 use Rattle.lookups.specs.State.{noMarks}
 use Prim.Native.Nat.{_≤_, _-_}
 use Rattle.desk_looks.specs.Held.{MarkedWhere, recordFree}
@@ -5,9 +6,6 @@ use Rattle.desk_looks.proofs.Marking.{where-none, free-more, where-end}
 use borrow.Author.Needs.{needs}
 use Rattle.desk_looks.proofs.mark_free.Statement.{statement}
 use Rattle.desk_looks.proofs.mark_free.Tie as tie
-use Rattle.desk_looks.proofs.mark_free.Reads as reads
-use Rattle.desk_looks.proofs.mark_free.Lts as lts
-use Rattle.desk_looks.proofs.is_free.Reads as is-free-reads
 
 abbrev Inv-loop : tie.InvT-loop
 Inv-loop s n held marks₀ k₀ marks k = (k ≤ n) × MarkedWhere (recordFree s held) k marks
@@ -15,45 +13,34 @@ Inv-loop s n held marks₀ k₀ marks k = (k ≤ n) × MarkedWhere (recordFree s
 abbrev μ-loop : tie.MeasureT-loop
 μ-loop s n held marks₀ k₀ marks k = n - k
 
--- src/lib.rt:153:5
 loop-holds : tie.Need-loop-holds Inv-loop μ-loop
 unfolding noMarks
 loop-holds c = (search needs, search where-none)
 
--- src/lib.rt:154:28
 mul-is-free : tie.Need-mul-is-free Inv-loop μ-loop
 mul-is-free c = search needs
 
--- src/lib.rt:154:28
 shared-slice-read-is-free : tie.Need-shared-slice-read-is-free Inv-loop μ-loop
 shared-slice-read-is-free c = search needs
 
--- src/lib.rt:154:34
 element-copy-out-is-free : tie.Need-element-copy-out-is-free Inv-loop μ-loop
 element-copy-out-is-free c = search needs
 
--- src/lib.rt:154:20
 is-free-requires : tie.Need-is-free-requires Inv-loop μ-loop
 is-free-requires c κs = search needs
 
--- src/lib.rt:154:9
 array-write-marks : tie.Need-array-write-marks Inv-loop μ-loop
 array-write-marks c = search needs
 
--- src/lib.rt:155:9
 add-k : tie.Need-add-k Inv-loop μ-loop
 add-k c = search needs
 
--- src/lib.rt:153:5
 loop-less : tie.Need-loop-less Inv-loop μ-loop
 loop-less c = search needs
 
--- src/lib.rt:153:5
 loop-again : tie.Need-loop-again Inv-loop μ-loop
-
 loop-again c = (search needs, search free-more)
 
--- src/lib.rt:147:1
 returns : tie.Need-returns Inv-loop μ-loop
 returns c = search where-end
 

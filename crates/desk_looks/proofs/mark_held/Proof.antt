@@ -1,3 +1,4 @@
+-- `desk_looks::mark_held` meets its contract. Assumes nothing.
 use Prim.Native.Nat.{_≤_, _-_}
 use Rattle.lookups.specs.State.{noMarks}
 use Rattle.graph.specs.Reach.{matrix}
@@ -6,9 +7,6 @@ use Rattle.desk_looks.proofs.Marking.{held-none, held-end}
 use borrow.Author.Needs.{needs}
 use Rattle.desk_looks.proofs.mark_held.Statement.{statement}
 use Rattle.desk_looks.proofs.mark_held.Tie as tie
-use Rattle.desk_looks.proofs.mark_held.Reads as reads
-use Rattle.desk_looks.proofs.mark_held.Lts as lts
-use Rattle.desk_looks.proofs.hold_from.Reads as hold-from-reads
 
 abbrev Inv-loop : tie.InvT-loop
 Inv-loop m s n held₀ u₀ held u = (u ≤ n) × Held (matrix m) s u held
@@ -16,28 +14,22 @@ Inv-loop m s n held₀ u₀ held u = (u ≤ n) × Held (matrix m) s u held
 abbrev μ-loop : tie.MeasureT-loop
 μ-loop m s n held₀ u₀ held u = n - u
 
--- src/lib.rt:130:5
 loop-holds : tie.Need-loop-holds Inv-loop μ-loop
 unfolding noMarks
 loop-holds c = (search needs, search held-none)
 
--- src/lib.rt:131:9
 hold-from-requires : tie.Need-hold-from-requires Inv-loop μ-loop
 hold-from-requires c κs = search needs
 
--- src/lib.rt:132:9
 add-u : tie.Need-add-u Inv-loop μ-loop
 add-u c = search needs
 
--- src/lib.rt:130:5
 loop-less : tie.Need-loop-less Inv-loop μ-loop
 loop-less c = search needs
 
--- src/lib.rt:130:5
 loop-again : tie.Need-loop-again Inv-loop μ-loop
 loop-again c = search needs
 
--- src/lib.rt:124:1
 returns : tie.Need-returns Inv-loop μ-loop
 returns c = search held-end
 

@@ -1,3 +1,4 @@
+-- `desk_looks::mark_state` meets its contract. Assumes nothing.
 use Rattle.lookups.specs.State.{noMarks}
 use Prim.Native.Nat.{_≤_, _-_}
 use Rattle.desk_looks.specs.Held.{MarkedWhere, recordIn}
@@ -5,8 +6,6 @@ use Rattle.desk_looks.proofs.Marking.{where-none, state-more, where-end
 use borrow.Author.Needs.{needs}
 use Rattle.desk_looks.proofs.mark_state.Statement.{statement}
 use Rattle.desk_looks.proofs.mark_state.Tie as tie
-use Rattle.desk_looks.proofs.mark_state.Reads as reads
-use Rattle.desk_looks.proofs.mark_state.Lts as lts
 
 abbrev Inv-loop : tie.InvT-loop
 Inv-loop s n state marks₀ k₀ marks k = (k ≤ n) × MarkedWhere (recordIn s state) k marks
@@ -14,37 +13,28 @@ Inv-loop s n state marks₀ k₀ marks k = (k ≤ n) × MarkedWhere (recordIn s 
 abbrev μ-loop : tie.MeasureT-loop
 μ-loop s n state marks₀ k₀ marks k = n - k
 
--- src/lib.rt:64:5
 loop-holds : tie.Need-loop-holds Inv-loop μ-loop
 unfolding noMarks
 loop-holds c = (search needs, search where-none)
 
--- src/lib.rt:65:20
 mul-marks : tie.Need-mul-marks Inv-loop μ-loop
 mul-marks c = search needs
 
--- src/lib.rt:65:20
 shared-slice-read-marks : tie.Need-shared-slice-read-marks Inv-loop μ-loop
 shared-slice-read-marks c = search needs
 
--- src/lib.rt:65:9
 array-write-marks : tie.Need-array-write-marks Inv-loop μ-loop
 array-write-marks c = search needs
 
--- src/lib.rt:66:9
 add-k : tie.Need-add-k Inv-loop μ-loop
 add-k c = search needs
 
--- src/lib.rt:64:5
 loop-less : tie.Need-loop-less Inv-loop μ-loop
 loop-less c = search needs
 
--- src/lib.rt:64:5
 loop-again : tie.Need-loop-again Inv-loop μ-loop
-
 loop-again c = (search needs, search state-more)
 
--- src/lib.rt:58:1
 returns : tie.Need-returns Inv-loop μ-loop
 returns c = search where-end
 

@@ -1,3 +1,4 @@
+-- `desk_release::first_held` meets its contract. Assumes nothing.
 use mathlib.Core.Path.{_≡_, refl}
 use Prim.Native.Nat.{_≤_, _-_}
 use lib.ListN.{drop}
@@ -8,9 +9,6 @@ use Rattle.desk_fits.proofs.Passing.{number-on, number-here, number-none}
 use borrow.Author.Needs.{needs}
 use Rattle.desk_release.proofs.first_held.Statement.{statement}
 use Rattle.desk_release.proofs.first_held.Tie as tie
-use Rattle.desk_release.proofs.first_held.Reads as reads
-use Rattle.desk_release.proofs.first_held.Lts as lts
-use Rattle.desk_release.proofs.is_held.Reads as is-held-reads
 
 abbrev Inv-loop : tie.InvT-loop
 Inv-loop s marks n k₀ k = (k ≤ n) × (firstPassingFrom (heldAt s marks) k (drop k (upTo n)) ≡ firstPassing (heldAt s marks) (upTo n))
@@ -18,46 +16,36 @@ Inv-loop s marks n k₀ k = (k ≤ n) × (firstPassingFrom (heldAt s marks) k (d
 abbrev μ-loop : tie.MeasureT-loop
 μ-loop s marks n k₀ k = n - k
 
--- src/lib.rt:82:5
 loop-holds : tie.Need-loop-holds Inv-loop μ-loop
 unfolding firstPassing
 loop-holds c = (search needs, refl)
 
--- src/lib.rt:83:20
 element-copy-out-is-held : tie.Need-element-copy-out-is-held Inv-loop μ-loop
 element-copy-out-is-held c = search needs
 
--- src/lib.rt:83:30
 mul-is-held : tie.Need-mul-is-held Inv-loop μ-loop
 mul-is-held c = search needs
 
--- src/lib.rt:83:30
 shared-slice-read-is-held : tie.Need-shared-slice-read-is-held Inv-loop μ-loop
 shared-slice-read-is-held c = search needs
 
--- src/lib.rt:83:12
 is-held-requires : tie.Need-is-held-requires Inv-loop μ-loop
 is-held-requires c κs = search needs
 
--- src/lib.rt:84:13
 returns : tie.Need-returns Inv-loop μ-loop
 unfolding heldAt
 returns c = search number-here
 
--- src/lib.rt:86:9
 add-k : tie.Need-add-k Inv-loop μ-loop
 add-k c = search needs
 
--- src/lib.rt:82:5
 loop-less : tie.Need-loop-less Inv-loop μ-loop
 loop-less c = search needs
 
--- src/lib.rt:82:5
 loop-again : tie.Need-loop-again Inv-loop μ-loop
 unfolding heldAt
 loop-again c = (search needs, search number-on)
 
--- src/lib.rt:77:1
 returns-2 : tie.Need-returns-2 Inv-loop μ-loop
 returns-2 c = search number-none
 

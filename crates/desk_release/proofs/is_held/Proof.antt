@@ -1,14 +1,11 @@
+-- `desk_release::is_held` meets its contract. Assumes nothing.
 use Rattle.desk_release.proofs.Released.{unmarked, marked-held}
 use Rattle.desk_release.proofs.is_held.Statement.{statement}
 use Rattle.desk_release.proofs.is_held.Tie as tie
-use Rattle.desk_release.proofs.is_held.Reads as reads
-use Rattle.desk_release.proofs.is_held.Lts as lts
 
--- src/lib.rt:71:9
 returns : tie.Need-returns
 returns c = search unmarked
 
--- src/lib.rt:67:1
 returns-2 : tie.Need-returns-2
 returns-2 c = search marked-held
 

@@ -1,14 +1,11 @@
+-- `desk_release::once_reviewed` meets its contract. Assumes nothing.
 use Rattle.desk_release.proofs.Reviewed.{waits-no-more, stays}
 use Rattle.desk_release.proofs.once_reviewed.Statement.{statement}
 use Rattle.desk_release.proofs.once_reviewed.Tie as tie
-use Rattle.desk_release.proofs.once_reviewed.Reads as reads
-use Rattle.desk_release.proofs.once_reviewed.Lts as lts
 
--- src/lib.rt:35:1
 returns : tie.Need-returns
 returns c = search waits-no-more
 
--- src/lib.rt:35:1
 returns-2 : tie.Need-returns-2
 returns-2 c = search stays
 

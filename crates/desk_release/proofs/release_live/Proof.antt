@@ -1,36 +1,27 @@
+-- `desk_release::release_live` meets its contract. Assumes nothing.
 use Rattle.desk_release.proofs.Released.{released-stays, not-reviewed, released-now}
 use borrow.Author.Needs.{needs}
 use Rattle.desk_release.proofs.release_live.Statement.{statement}
 use Rattle.desk_release.proofs.release_live.Tie as tie
-use Rattle.desk_release.proofs.release_live.Reads as reads
-use Rattle.desk_release.proofs.release_live.Lts as lts
-use Rattle.desk_release.proofs.release_reviewed.Reads as release-reviewed-reads
 
--- src/lib.rt:122:13
 mul-x : tie.Need-mul-x
 mul-x c = search needs
 
--- src/lib.rt:122:13
 slice-read-x : tie.Need-slice-read-x
 slice-read-x c = search needs
 
--- src/lib.rt:124:9
 returns : tie.Need-returns
 returns c = search released-stays
 
--- src/lib.rt:127:9
 returns-2 : tie.Need-returns-2
 returns-2 c = search not-reviewed
 
--- src/lib.rt:129:5
 release-reviewed-requires : tie.Need-release-reviewed-requires
 release-reviewed-requires c κs = search needs
 
--- src/lib.rt:117:1
 same-length : tie.Need-same-length
 same-length c = search needs
 
--- src/lib.rt:117:1
 returns-3 : tie.Need-returns-3
 returns-3 c = search released-now
 
