@@ -2,10 +2,10 @@
 use mathlib.Core.Path.{_≡_, refl, sym, ap, ap₂, _∙_}
 use mathlib.Core.Bool.{Bool, true, false, not, _||_}
 use mathlib.Core.List.{List}
-use Prim.Native.Nat.{ℕ, _<_}
+use Prim.Native.Nat.{ℕ, _+_, _-_, _≤_, _<_}
 use native.Mathlib.Omega.{arith}
 use lib.Dec.{eqb}
-use lib.ListN.{length, getD, set}
+use lib.ListN.{length, getD, drop, set}
 use borrow.Author.Tests.{eq-eqb, ne-eqb, not-true, not-false}
 use Rattle.lists.specs.Tests.{_and_}
 use Rattle.lists.specs.Lists.{upTo, wordAt}
@@ -20,8 +20,9 @@ use Rattle.layout.specs.Inner.{Formed}
 use Rattle.layout.specs.Steps.{hasStep}
 use Rattle.layout.specs.Answers.{Result, result}
 use Rattle.layout.proofs.Read.{live-length, live-at, live-ascends, vertex-found}
-use Rattle.edits.specs.Results.{firstPassing}
+use Rattle.edits.specs.Results.{firstPassingFrom, firstPassing}
 use Rattle.edits.proofs.Passing.{on-first-passing, on-none-first}
+use Rattle.marks.specs.Marks.{isMarked}
 use Rattle.lookups.specs.declared.Direction.the-variants.{To}
 use Rattle.lookups.specs.declared.Relation.the-variants.{Along}
 use Rattle.lookups.specs.Lookups.{relates, isRelated}
@@ -30,7 +31,7 @@ use Rattle.lookups.proofs.Marking.{no-mark}
 use Rattle.desk.specs.States.{reviewed, released, withState}
 use Rattle.desk.specs.Releases.{holds, upstreamHeld, onReviewed, onUnheld, releasing}
 use Rattle.desk_fits.proofs.Looked.{in-state-found, in-state-at, with-state-found}
-use Rattle.desk_fits.proofs.Passing.{first-same}
+use Rattle.desk_fits.proofs.Passing.{number-on, number-here, number-none, first-same}
 use Rattle.desk_release.specs.Held.{heldAt, releaseReviewedResult, releaseLiveResult}
 
 -- ---- a record, by its mark and its state
@@ -42,6 +43,28 @@ unmarked mark x h = rw (not-true mark h)
 pub marked-held : (mark : Bool) (x : ℕ) → not mark ≡ false → not (eqb x released) ≡ (mark and not (eqb x released))
 unfolding _and_
 marked-held mark x h = rw (not-false mark h)
+
+-- ---- a loop in which `left` of the n records are left, from k on; r is what `is_held` found of record k
+
+pub held-first : (p : ℕ → Bool) (n : ℕ) → firstPassingFrom p (n - n) (drop (n - n) (upTo n)) ≡ firstPassing p (upTo n)
+unfolding firstPassing
+held-first p n = let z : n - n ≡ 0 = omega arith in rw z
+
+module _ (ss : List ℕ) (marks : List Bool) (n left : ℕ) (whole : Found) (most : left ≤ n)
+    (inv : firstPassingFrom (heldAt ss marks) (n - left) (drop (n - left) (upTo n)) ≡ whole) where
+  module _ (r : Bool) (e : r ≡ (isMarked marks (n - left) and not (eqb (wordAt ss (n - left)) released))) (h : 0 < left) where
+    pub held-on : r ≡ false → firstPassingFrom (heldAt ss marks) (n - (left - 1)) (drop (n - (left - 1)) (upTo n)) ≡ whole
+    unfolding heldAt
+    held-on q =
+        let s : n - (left - 1) ≡ n - left + 1 = omega arith in
+        rw s (number-on (heldAt ss marks) n (n - left) whole inv r e (omega arith) q)
+
+    pub held-here : r ≡ true → At (n - left) ≡ whole
+    unfolding heldAt
+    held-here q = number-here (heldAt ss marks) n (n - left) whole inv r e (omega arith) q
+
+  pub held-none : left ≤ 0 → Nothing ≡ whole
+  held-none h = number-none (heldAt ss marks) n (n - left) whole inv (omega arith)
 
 -- ---- the first that holds: marks are those of the vertices with a step into v
 

@@ -85,12 +85,13 @@ fn first_held(s: &[u32], marks: &[bool; 256], n: usize) -> Found
     requires { ⌜ (n ≤ vertexLimit) × (length (now s) ≡ vertexLimit) ⌝ }
     ensures { λ r. ⌜ r ≡ firstPassing (heldAt (now (s .entry)) (now (marks .entry))) (upTo n) ⌝ }
 {
-    let mut k = 0;
-    while k < n {
+    let mut left = n;
+    while 0 < left {
+        let k = n - left;
         if is_held(marks[k], s[k]) {
             return Found::At(k);
         }
-        k += 1;
+        left -= 1;
     }
     Found::Nothing
 }
