@@ -1,0 +1,2 @@
+pub mod Reviewed
+pub mod Released
