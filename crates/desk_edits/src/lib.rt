@@ -60,9 +60,9 @@ pub fn desk_clear(t: &mut [u32], s: &mut [u32]) -> Answer
     if s.len() != layout::VERTEX_LIMIT {
         return Answer::NotWellFormed;
     }
-    let a = hypergraph::clear(t);
-    renew(s, a);
-    a
+    let cleared = hypergraph::clear(t);
+    renew(s, cleared);
+    cleared
 }
 
 pub fn desk_read_frames(t: &mut [u32], s: &mut [u32], text: &[u8]) -> Answer
@@ -71,7 +71,7 @@ pub fn desk_read_frames(t: &mut [u32], s: &mut [u32], text: &[u8]) -> Answer
     if s.len() != layout::VERTEX_LIMIT {
         return Answer::NotWellFormed;
     }
-    let a = read_frames::read_frames(t, text);
-    renew(s, a);
-    a
+    let read = read_frames::read_frames(t, text);
+    renew(s, read);
+    read
 }
