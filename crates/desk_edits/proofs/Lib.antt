@@ -1,3 +1,2 @@
 mod Kept
-mod Removed
 mod Anew

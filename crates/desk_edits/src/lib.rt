@@ -1,16 +1,12 @@
-// Every edit through the release desk, but the tray: the answer and the table are the lower edit's, and the states follow their vertices.
+// Edits through the release desk that take no vertex out: the answer and the table are the lower edit's.
 ghost use mathlib.Core.Path.{_≡_};
-ghost use Rattle.removals.specs.Removals.{vertex, hyperedge};
-ghost use Rattle.calls.specs.Calls.{addVertex, addHyperedge, update, merge, remove};
+ghost use Rattle.removals.specs.Removals.{hyperedge};
+ghost use Rattle.calls.specs.Calls.{addVertex, addHyperedge, update, remove};
 ghost use Rattle.desk.specs.Desk.{deskOf, outcome, deskEdit, deskClear, deskRead};
-ghost use Rattle.desk_states.specs.Following.{Opened};
-use desk_states::follow_done;
 use desk_states::is_open;
-use desk_states::note_numbers;
 use desk_states::renew;
 use layout::Answer;
 use layout::HyperedgeIndex;
-use layout::VertexIndex;
 
 // ---- the records of the vertices stay where they are, and so do their states
 
@@ -56,63 +52,6 @@ pub fn desk_remove_hyperedge(t: &mut [u32], s: &mut [u32], e: HyperedgeIndex) ->
     remove_hyperedge::remove_hyperedge(t, e)
 }
 
-// ---- a record is taken out, and the states behind it move down
-
-// The removal, from a desk that was found open, with its n numbers noted.
-fn remove_noted(
-    t: &mut [u32],
-    s: &mut [u32],
-    numbers: &[u32; 256],
-    n: usize,
-    v: VertexIndex,
-) -> Answer
-    requires { ⌜ Opened (now t) (now s) n (now numbers) ⌝ }
-    ensures { λ r. ⌜ outcome r (deskOf (now (t .exit)) (now (s .exit))) ≡ deskEdit (remove (vertex (v .0))) (deskOf (now (t .entry)) (now (s .entry))) ⌝ }
-{
-    let a = remove_vertex::remove_vertex(t, v);
-    follow_done(t, numbers, n, s, a);
-    a
-}
-
-pub fn desk_remove_vertex(t: &mut [u32], s: &mut [u32], v: VertexIndex) -> Answer
-    ensures { λ r. ⌜ outcome r (deskOf (now (t .exit)) (now (s .exit))) ≡ deskEdit (remove (vertex (v .0))) (deskOf (now (t .entry)) (now (s .entry))) ⌝ }
-{
-    if !is_open(t, s) {
-        return Answer::NotWellFormed;
-    }
-    let n = layout::vertex_count(t);
-    let numbers = note_numbers(t);
-    remove_noted(t, s, &numbers, n, v)
-}
-
-// The merge, from a desk that was found open, with its n numbers noted: w loses its state, and v keeps its own.
-fn merge_noted(
-    t: &mut [u32],
-    s: &mut [u32],
-    numbers: &[u32; 256],
-    n: usize,
-    v: VertexIndex,
-    w: VertexIndex,
-) -> Answer
-    requires { ⌜ Opened (now t) (now s) n (now numbers) ⌝ }
-    ensures { λ r. ⌜ outcome r (deskOf (now (t .exit)) (now (s .exit))) ≡ deskEdit (merge (v .0) (w .0)) (deskOf (now (t .entry)) (now (s .entry))) ⌝ }
-{
-    let a = merge_vertices::merge_vertices(t, v, w);
-    follow_done(t, numbers, n, s, a);
-    a
-}
-
-pub fn desk_merge_vertices(t: &mut [u32], s: &mut [u32], v: VertexIndex, w: VertexIndex) -> Answer
-    ensures { λ r. ⌜ outcome r (deskOf (now (t .exit)) (now (s .exit))) ≡ deskEdit (merge (v .0) (w .0)) (deskOf (now (t .entry)) (now (s .entry))) ⌝ }
-{
-    if !is_open(t, s) {
-        return Answer::NotWellFormed;
-    }
-    let n = layout::vertex_count(t);
-    let numbers = note_numbers(t);
-    merge_noted(t, s, &numbers, n, v, w)
-}
-
 // ---- the table is written anew, and every record waits
 
 pub fn desk_clear(t: &mut [u32], s: &mut [u32]) -> Answer
@@ -121,9 +60,9 @@ pub fn desk_clear(t: &mut [u32], s: &mut [u32]) -> Answer
     if s.len() != layout::VERTEX_LIMIT {
         return Answer::NotWellFormed;
     }
-    let a = hypergraph::clear(t);
-    renew(s, a);
-    a
+    let cleared = hypergraph::clear(t);
+    renew(s, cleared);
+    cleared
 }
 
 pub fn desk_read_frames(t: &mut [u32], s: &mut [u32], text: &[u8]) -> Answer
@@ -132,7 +71,7 @@ pub fn desk_read_frames(t: &mut [u32], s: &mut [u32], text: &[u8]) -> Answer
     if s.len() != layout::VERTEX_LIMIT {
         return Answer::NotWellFormed;
     }
-    let a = read_frames::read_frames(t, text);
-    renew(s, a);
-    a
+    let read = read_frames::read_frames(t, text);
+    renew(s, read);
+    read
 }

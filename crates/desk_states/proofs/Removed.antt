@@ -16,8 +16,9 @@ use Rattle.layout.specs.WellFormed.{wellFormed}
 use Rattle.layout.specs.Inner.{vertexColumn}
 use Rattle.layout.specs.Answers.{number, Result, result}
 use Rattle.layout.proofs.Read.{live-vertices, formed-of}
+use Rattle.calls.specs.Calls.{Edit, edit}
 use Rattle.desk.specs.States.{stateIn, statesBy}
-use Rattle.desk.specs.Desk.{Desk, deskOf, outcome, answering, deskFits, following, edited}
+use Rattle.desk.specs.Desk.{Desk, deskOf, outcome, answering, deskFits, following, edited, deskEdit}
 use Rattle.desk.proofs.Edits.{following-same}
 use Rattle.desk_states.specs.Open.{isOpen}
 use Rattle.desk_states.specs.Following.{Noted, Opened, Survivors, followed, Followable}
@@ -39,6 +40,10 @@ unfit-edited r d u = rw u
 -- b is what `is_open` found, and the code tested `!b`
 pub shut-edited : (r : Result) (ws ss : List ℕ) (b : Bool) → b ≡ isOpen (deskOf ws ss) → not b ≡ true → outcome NotWellFormed (deskOf ws ss) ≡ edited r (deskOf ws ss)
 shut-edited r ws ss b e h = sym (unfit-edited r (deskOf ws ss) (shut-unfit (deskOf ws ss) (sym e ∙ not-true b h)))
+
+pub edit-shut : (e : Edit) (ws ss : List ℕ) (b : Bool) → b ≡ isOpen (deskOf ws ss) → not b ≡ true → outcome NotWellFormed (deskOf ws ss) ≡ deskEdit e (deskOf ws ss)
+unfolding deskEdit
+edit-shut e ws ss b eb h = shut-edited (edit e ws) ws ss b eb h
 
 -- the desk was found open and its numbers noted: n is what `vertex_count` found, numbers what `note_numbers` did
 pub opened-by : (ws ss : List ℕ) (n : ℕ) (numbers : List ℕ) (b : Bool) → b ≡ isOpen (deskOf ws ss) → not b ≡ false → n ≡ vertexCount ws → Noted ws numbers → Opened ws ss n numbers

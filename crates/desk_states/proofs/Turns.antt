@@ -163,6 +163,11 @@ module _ (ws : List ℕ) where
   pub noted-all : (n i : ℕ) (r : List ℕ) → n ≡ vertexCount ws → i ≤ n → n ≤ i → length r ≡ vertexLimit → take i r ≡ column ws verticesAt vertexSize i → Noted ws r
   noted-all n i r en l g len e = record { room = len; front = let q : i ≡ vertexCount ws = omega arith in rw (← q) e }
 
+-- ---- the answer's number, as `reply_of` gives it
+
+pub done-by : (a : Answer) (x : ℕ) → x ≡ number a → eqb x 0 ≡ eqb (number a) 0
+done-by a x e = rw e
+
 -- ---- what an answer leaves of the states: r is what `is_done` found, and the code tested `!r`
 
 module _ (a : Answer) (r : Bool) (e : r ≡ eqb (number a) 0) (ss : List ℕ) where

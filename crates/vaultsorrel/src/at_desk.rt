@@ -51,7 +51,7 @@ pub extern "C" fn vs_desk_update_hyperedge_vertices(
 pub extern "C" fn vs_desk_remove_vertex(t: &mut [u32], s: &mut [u32], v: VertexIndex) -> Reply
     ensures { λ r. ⌜ repliedAt r (deskOf (now (t .exit)) (now (s .exit))) ≡ deskEdit (remove (vertex (v .0))) (deskOf (now (t .entry)) (now (s .entry))) ⌝ }
 {
-    layout::reply_of(desk_edits::desk_remove_vertex(t, s, v))
+    layout::reply_of(desk_removals::desk_remove_vertex(t, s, v))
 }
 
 #[no_mangle]
@@ -71,7 +71,7 @@ pub extern "C" fn vs_desk_merge_vertices(
 ) -> Reply
     ensures { λ r. ⌜ repliedAt r (deskOf (now (t .exit)) (now (s .exit))) ≡ deskEdit (merge (v .0) (w .0)) (deskOf (now (t .entry)) (now (s .entry))) ⌝ }
 {
-    layout::reply_of(desk_edits::desk_merge_vertices(t, s, v, w))
+    layout::reply_of(desk_removals::desk_merge_vertices(t, s, v, w))
 }
 
 #[no_mangle]

@@ -1,5 +1,6 @@
 -- `desk_edits::desk_add_vertex` meets its contract. Assumes nothing.
-use Rattle.desk_edits.proofs.Kept.{edit-shut, vertex-added}
+use Rattle.desk_states.proofs.Removed.{edit-shut}
+use Rattle.desk_edits.proofs.Kept.{vertex-added}
 use borrow.Author.Needs.{needs}
 use Rattle.desk_edits.proofs.desk_add_vertex.Statement.{statement}
 use Rattle.desk_edits.proofs.desk_add_vertex.Tie as tie

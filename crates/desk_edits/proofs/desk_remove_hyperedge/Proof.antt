@@ -1,5 +1,6 @@
 -- `desk_edits::desk_remove_hyperedge` meets its contract. Assumes nothing.
-use Rattle.desk_edits.proofs.Kept.{edit-shut, hyperedge-removed}
+use Rattle.desk_states.proofs.Removed.{edit-shut}
+use Rattle.desk_edits.proofs.Kept.{hyperedge-removed}
 use borrow.Author.Needs.{needs}
 use Rattle.desk_edits.proofs.desk_remove_hyperedge.Statement.{statement}
 use Rattle.desk_edits.proofs.desk_remove_hyperedge.Tie as tie

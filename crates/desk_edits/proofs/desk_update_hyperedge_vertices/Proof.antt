@@ -1,5 +1,6 @@
 -- `desk_edits::desk_update_hyperedge_vertices` meets its contract. Assumes nothing.
-use Rattle.desk_edits.proofs.Kept.{edit-shut, hyperedge-updated}
+use Rattle.desk_states.proofs.Removed.{edit-shut}
+use Rattle.desk_edits.proofs.Kept.{hyperedge-updated}
 use borrow.Author.Needs.{needs}
 use Rattle.desk_edits.proofs.desk_update_hyperedge_vertices.Statement.{statement}
 use Rattle.desk_edits.proofs.desk_update_hyperedge_vertices.Tie as tie

@@ -1,4 +1,5 @@
 -- `desk_states::is_done` meets its contract. Assumes nothing.
+use Rattle.desk_states.proofs.Turns.{done-by}
 use borrow.Author.Needs.{needs}
 use Rattle.desk_states.proofs.is_done.Statement.{statement}
 use Rattle.desk_states.proofs.is_done.Tie as tie
@@ -7,7 +8,7 @@ reply-of-requires : tie.Need-reply-of-requires
 reply-of-requires c κs = search needs
 
 returns : tie.Need-returns
-returns c = rw (c .before .reply-of .ensures .0)
+returns c = search done-by
 
 pub is-done-spec : {M : Type 1} → statement M
 is-done-spec = tie.close (tie.spec reply-of-requires returns)

@@ -1,8 +1,8 @@
--- `desk_edits::merge_noted` meets its contract. Assumes nothing.
-use Rattle.desk_edits.proofs.Removed.{merge-left, vertex-merged}
+-- `desk_removals::merge_noted` meets its contract. Assumes nothing.
+use Rattle.desk_removals.proofs.Removed.{merge-left, vertex-merged}
 use borrow.Author.Needs.{needs}
-use Rattle.desk_edits.proofs.merge_noted.Statement.{statement}
-use Rattle.desk_edits.proofs.merge_noted.Tie as tie
+use Rattle.desk_removals.proofs.merge_noted.Statement.{statement}
+use Rattle.desk_removals.proofs.merge_noted.Tie as tie
 
 merge-vertices-requires : tie.Need-merge-vertices-requires
 merge-vertices-requires c κs = search needs

@@ -1,8 +1,8 @@
--- `desk_edits::remove_noted` meets its contract. Assumes nothing.
-use Rattle.desk_edits.proofs.Removed.{vertex-left, vertex-removed}
+-- `desk_removals::remove_noted` meets its contract. Assumes nothing.
+use Rattle.desk_removals.proofs.Removed.{vertex-left, vertex-removed}
 use borrow.Author.Needs.{needs}
-use Rattle.desk_edits.proofs.remove_noted.Statement.{statement}
-use Rattle.desk_edits.proofs.remove_noted.Tie as tie
+use Rattle.desk_removals.proofs.remove_noted.Statement.{statement}
+use Rattle.desk_removals.proofs.remove_noted.Tie as tie
 
 remove-vertex-requires : tie.Need-remove-vertex-requires
 remove-vertex-requires c κs = search needs
