@@ -1,2 +1,4 @@
 mod Refusals
 pub mod Calls
+pub mod Agreement
+pub mod Interface

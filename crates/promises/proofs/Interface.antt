@@ -101,7 +101,7 @@ use Rattle.vaultsorrel.proofs.vs_write_frames.Reads as vs-write-frames-reads
 use Rattle.vaultsorrel.proofs.vs_read_frames.Kinds as vs-read-frames
 use Rattle.vaultsorrel.proofs.vs_read_frames.Reads as vs-read-frames-reads
 
-replies-agree : (promised : Result) {a b : Reply} {x y : List ℕ} → replied a x ≡ promised → replied b y ≡ promised → (a ≡ b) × (x ≡ y)
+pub replies-agree : (promised : Result) {a b : Reply} {x y : List ℕ} → replied a x ≡ promised → replied b y ≡ promised → (a ≡ b) × (x ≡ y)
 replies-agree promised p q = (
   ap (λ (r : Result). record { number = r .number; detail = r .detail }) (p ∙ sym q),
   ap (λ (r : Result). r .lent) (p ∙ sym q),
