@@ -19,7 +19,8 @@ use Rattle.desk_states.proofs.Open.{open-fits, unformed-unfit}
 
 -- b is what `is_open` found, and the code tested `!b`; the edit of the table answered a and left the words left
 module _ (ws ss : List ℕ) (b : Bool) (eb : b ≡ isOpen (deskOf ws ss)) (hb : not b ≡ false) (a : Answer) (left : List ℕ) where
-  stays : (e : Edit) → (deskFits (deskOf ws ss) ≡ true → StatesStay e (deskOf ws ss)) → result a left ≡ edit e ws → outcome a (deskOf left ss) ≡ deskEdit e (deskOf ws ss)
+  stays : (e : Edit) → (deskFits (deskOf ws ss) ≡ true → StatesStay e (deskOf ws ss))
+      → result a left ≡ edit e ws → outcome a (deskOf left ss) ≡ deskEdit e (deskOf ws ss)
   stays e stay q =
       on (wellFormed limit ws)
       (λ f. ap (λ (r : Result). answering r (deskOf (r .lent) ss)) q ∙ sym (stay (open-fits (deskOf ws ss) (sym eb ∙ not-false b hb) f)))
@@ -34,10 +35,12 @@ module _ (ws ss : List ℕ) (b : Bool) (eb : b ≡ isOpen (deskOf ws ss)) (hb : 
   unfolding edit
   hyperedge-added ms w q = stays (addHyperedge ms w) (λ f. add-hyperedge-stays (deskOf ws ss) f ms w) q
 
-  pub hyperedge-updated : (x : ℕ) (ms : List ℕ) → result a left ≡ onFormed ws ws (updateResult x ms ws) → outcome a (deskOf left ss) ≡ deskEdit (update x ms) (deskOf ws ss)
+  pub hyperedge-updated : (x : ℕ) (ms : List ℕ) → result a left ≡ onFormed ws ws (updateResult x ms ws)
+      → outcome a (deskOf left ss) ≡ deskEdit (update x ms) (deskOf ws ss)
   unfolding edit
   hyperedge-updated x ms q = stays (update x ms) (λ f. update-stays (deskOf ws ss) f x ms) q
 
-  pub hyperedge-removed : (x : ℕ) → result a left ≡ onFormed ws ws (removeHyperedgeResult x ws) → outcome a (deskOf left ss) ≡ deskEdit (remove (hyperedge x)) (deskOf ws ss)
+  pub hyperedge-removed : (x : ℕ) → result a left ≡ onFormed ws ws (removeHyperedgeResult x ws)
+      → outcome a (deskOf left ss) ≡ deskEdit (remove (hyperedge x)) (deskOf ws ss)
   unfolding edit removal
   hyperedge-removed x q = stays (remove (hyperedge x)) (λ f. remove-hyperedge-stays (deskOf ws ss) f x) q

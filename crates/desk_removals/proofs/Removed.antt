@@ -49,7 +49,8 @@ module _ (ws ss : List ℕ) (n : ℕ) (numbers : List ℕ) (op : Opened ws ss n 
     unfolding edit removal
     vertex-left = opened-left ws ss n numbers op a left _ q (vertex-removes v ws)
 
-    pub vertex-removed : (ss′ : List ℕ) → ss′ ≡ followed a (take n numbers) ss (vertexColumn left) → outcome a (deskOf left ss′) ≡ deskEdit (remove (vertex v)) (deskOf ws ss)
+    pub vertex-removed : (ss′ : List ℕ) → ss′ ≡ followed a (take n numbers) ss (vertexColumn left)
+        → outcome a (deskOf left ss′) ≡ deskEdit (remove (vertex v)) (deskOf ws ss)
     unfolding deskEdit edit removal
     vertex-removed ss′ es = opened-edited ws ss n numbers op a left _ q (vertex-removes v ws) ss′ es
 
@@ -58,6 +59,7 @@ module _ (ws ss : List ℕ) (n : ℕ) (numbers : List ℕ) (op : Opened ws ss n 
     unfolding edit
     merge-left = opened-left ws ss n numbers op a left _ q (merge-removes v w ws)
 
-    pub vertex-merged : (ss′ : List ℕ) → ss′ ≡ followed a (take n numbers) ss (vertexColumn left) → outcome a (deskOf left ss′) ≡ deskEdit (merge v w) (deskOf ws ss)
+    pub vertex-merged : (ss′ : List ℕ) → ss′ ≡ followed a (take n numbers) ss (vertexColumn left)
+        → outcome a (deskOf left ss′) ≡ deskEdit (merge v w) (deskOf ws ss)
     unfolding deskEdit edit
     vertex-merged ss′ es = opened-edited ws ss n numbers op a left _ q (merge-removes v w ws) ss′ es

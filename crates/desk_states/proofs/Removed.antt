@@ -38,15 +38,18 @@ unfolding edited
 unfit-edited r d u = rw u
 
 -- b is what `is_open` found, and the code tested `!b`
-pub shut-edited : (r : Result) (ws ss : List ℕ) (b : Bool) → b ≡ isOpen (deskOf ws ss) → not b ≡ true → outcome NotWellFormed (deskOf ws ss) ≡ edited r (deskOf ws ss)
+pub shut-edited : (r : Result) (ws ss : List ℕ) (b : Bool) → b ≡ isOpen (deskOf ws ss) → not b ≡ true
+    → outcome NotWellFormed (deskOf ws ss) ≡ edited r (deskOf ws ss)
 shut-edited r ws ss b e h = sym (unfit-edited r (deskOf ws ss) (shut-unfit (deskOf ws ss) (sym e ∙ not-true b h)))
 
-pub edit-shut : (e : Edit) (ws ss : List ℕ) (b : Bool) → b ≡ isOpen (deskOf ws ss) → not b ≡ true → outcome NotWellFormed (deskOf ws ss) ≡ deskEdit e (deskOf ws ss)
+pub edit-shut : (e : Edit) (ws ss : List ℕ) (b : Bool) → b ≡ isOpen (deskOf ws ss) → not b ≡ true
+    → outcome NotWellFormed (deskOf ws ss) ≡ deskEdit e (deskOf ws ss)
 unfolding deskEdit
 edit-shut e ws ss b eb h = shut-edited (edit e ws) ws ss b eb h
 
 -- the desk was found open and its numbers noted: n is what `vertex_count` found, numbers what `note_numbers` did
-pub opened-by : (ws ss : List ℕ) (n : ℕ) (numbers : List ℕ) (b : Bool) → b ≡ isOpen (deskOf ws ss) → not b ≡ false → n ≡ vertexCount ws → Noted ws numbers → Opened ws ss n numbers
+pub opened-by : (ws ss : List ℕ) (n : ℕ) (numbers : List ℕ) (b : Bool) → b ≡ isOpen (deskOf ws ss) → not b ≡ false
+    → n ≡ vertexCount ws → Noted ws numbers → Opened ws ss n numbers
 opened-by ws ss n numbers b e h en noted = record { is-open = sym e ∙ not-false b h; count = en; noted = noted }
 
 -- the call answered a and left the words left
@@ -105,7 +108,8 @@ module _ (ws ss : List ℕ) (n : ℕ) (numbers : List ℕ) (op : Opened ws ss n 
         (λ u. refused-is u ∙ sym (unfit-edited (result a left) (deskOf ws ss) (unformed-unfit (deskOf ws ss) u)))
 
 -- r is what the call's contract says
-module _ (ws ss : List ℕ) (n : ℕ) (numbers : List ℕ) (op : Opened ws ss n numbers) (a : Answer) (left : List ℕ) (r : Result) (er : result a left ≡ r) (rm : Removes ws r) where
+module _ (ws ss : List ℕ) (n : ℕ) (numbers : List ℕ) (op : Opened ws ss n numbers)
+    (a : Answer) (left : List ℕ) (r : Result) (er : result a left ≡ r) (rm : Removes ws r) where
   pub opened-left : Followable a numbers n left ss
   opened-left = followable ws ss n numbers op a left (subst (Removes ws) (sym er) rm)
 
@@ -114,7 +118,8 @@ module _ (ws ss : List ℕ) (n : ℕ) (numbers : List ℕ) (op : Opened ws ss n 
       now-edited ws ss n numbers op a left (subst (Removes ws) (sym er) rm) ss′ es ∙ ap (λ (r : Result). edited r (deskOf ws ss)) er
 
 -- the same where one function opens the desk, notes the numbers and makes the call
-module _ (ws ss : List ℕ) (b : Bool) (eb : b ≡ isOpen (deskOf ws ss)) (hb : not b ≡ false) (n : ℕ) (en : n ≡ vertexCount ws) (numbers : List ℕ) (noted : Noted ws numbers)
+module _ (ws ss : List ℕ) (b : Bool) (eb : b ≡ isOpen (deskOf ws ss)) (hb : not b ≡ false) (n : ℕ) (en : n ≡ vertexCount ws)
+    (numbers : List ℕ) (noted : Noted ws numbers)
     (a : Answer) (left : List ℕ) (r : Result) (er : result a left ≡ r) (rm : Removes ws r) where
   pub removed-left : Followable a numbers n left ss
   removed-left = opened-left ws ss n numbers (opened-by ws ss n numbers b eb hb en noted) a left r er rm

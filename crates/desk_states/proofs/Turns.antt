@@ -59,7 +59,8 @@ module _ (numbers : List ℕ) (n : ℕ) (ws : List ℕ) (v : Survivors numbers n
   moved-none ss len = record { left = v; lent = len; moved = relaid-none (stateWords live ss) 0 1 ss }
 
   module _ (ss : List ℕ) (i k : ℕ) (s : List ℕ) (st : StatesMoved (v .keeps) live ss i k s) (h : i < n) where
-    one-more : filter (v .keeps) (take (i + 1) live) ≡ cond (v .keeps (getD live i 0)) (filter (v .keeps) (take i live) ++ (getD live i 0 ∷ [])) (filter (v .keeps) (take i live))
+    one-more : filter (v .keeps) (take (i + 1) live) ≡ cond (v .keeps (getD live i 0))
+        (filter (v .keeps) (take i live) ++ (getD live i 0 ∷ [])) (filter (v .keeps) (take i live))
     one-more = rw (add-one, take-suc live i 0 (rw live-is h)) (filter-snoc (v .keeps) (take i live) (getD live i 0))
 
     -- where it is kept, record k has its number
@@ -105,7 +106,8 @@ module _ (numbers ws : List ℕ) (i k c : ℕ) (s : List ℕ) (ec : c ≡ vertex
       let v = m .left in let x : ℕ = getD (take n numbers) i 0 in record {
         left = v;
         lent = m .lent;
-        moved = on (v .keeps x) (λ e. absurd (lt-irrefl k (omega (arith, ec, kept-here numbers n ws v ss i k s (m .moved) h e .0)))) (passed numbers n ws v ss i k s (m .moved) h);
+        moved = on (v .keeps x) (λ e. absurd (lt-irrefl k (omega (arith, ec, kept-here numbers n ws v ss i k s (m .moved) h e .0))))
+            (passed numbers n ws v ss i k s (m .moved) h);
       }
 
   module _ (y : ℕ) (ey : y ≡ getD ws (vertexWord k) 0) where
@@ -114,7 +116,8 @@ module _ (numbers ws : List ℕ) (i k c : ℕ) (s : List ℕ) (ec : c ≡ vertex
         let v = m .left in let x : ℕ = getD (take n numbers) i 0 in record {
           left = v;
           lent = m .lent;
-          moved = on (v .keeps x) (λ e. absurd (ne (ey ∙ kept-here numbers n ws v ss i k s (m .moved) h e .1 ∙ getD-take n numbers i 0 h))) (passed numbers n ws v ss i k s (m .moved) h);
+          moved = on (v .keeps x) (λ e. absurd (ne (ey ∙ kept-here numbers n ws v ss i k s (m .moved) h e .1 ∙ getD-take n numbers i 0 h)))
+              (passed numbers n ws v ss i k s (m .moved) h);
         }
 
     pub its-number : (s′ : List ℕ) → k < c → y ≡ getD numbers i 0 → s′ ≡ set s k (getD s i 0) → StateTurn numbers ws i k s (k + 1) s′
@@ -141,10 +144,12 @@ moved-done numbers n ws ss i k s s₂ m l g e =
     let live : List ℕ = take n numbers in
     let z : k ≡ 0 + k * 1 = omega arith in
     let c : vertexLimit - k ≡ vertexLimit - k * 1 = omega arith in
-    let seen : filter (v .keeps) (take i live) ≡ vertexColumn ws = ap (filter (v .keeps)) (take-all i live (omega (arith, live-is numbers n ws v))) ∙ sym (v .kept) in
+    let seen : filter (v .keeps) (take i live) ≡ vertexColumn ws =
+    ap (filter (v .keeps)) (take-all i live (omega (arith, live-is numbers n ws v))) ∙ sym (v .kept) in
     relaid-cleared (stateWords live ss) 0 1 ss _ i k s (m .moved) vertexLimit (omega (arith, v .few)) (omega (arith, m .lent)) s₂
     (e ∙ ap₂ (λ (j w : ℕ). paste s j (replicate w 0) w) z c)
-    ∙ ap₂ (λ (x y : List ℕ). pad vertexLimit x ++ y) (flat-words (stateIn live ss) _ ∙ ap (map (stateIn live ss)) seen) (drop-of-length-le ss {i = 0 + vertexLimit} (omega (arith, m .lent)))
+    ∙ ap₂ (λ (x y : List ℕ). pad vertexLimit x ++ y) (flat-words (stateIn live ss) _ ∙ ap (map (stateIn live ss)) seen)
+    (drop-of-length-le ss {i = 0 + vertexLimit} (omega (arith, m .lent)))
     ∙ append-nil _
 
 -- ---- the numbers noted
@@ -155,7 +160,8 @@ module _ (ws : List ℕ) where
   noted-none r = refl
 
   -- i numbers stand at the front of r; n is what `vertex_count` found, x the number of record i
-  pub noted-more : (n i x : ℕ) (r : List ℕ) → n ≡ vertexCount ws → vertexCount ws ≤ vertexLimit → i < n → length r ≡ vertexLimit → take i r ≡ column ws verticesAt vertexSize i
+  pub noted-more : (n i x : ℕ) (r : List ℕ) → n ≡ vertexCount ws → vertexCount ws ≤ vertexLimit → i < n → length r ≡ vertexLimit
+      → take i r ≡ column ws verticesAt vertexSize i
       → x ≡ getD ws (vertexWord i) 0 → take (i + 1) (set r i x) ≡ column ws verticesAt vertexSize (i + 1)
   noted-more n i x r en le h len e q =
       rw (add-one, take-suc-set r i x (omega arith), e, q) (sym (tab-suc (λ (j : ℕ). getD ws (vertexWord j) 0) i))
@@ -174,10 +180,12 @@ module _ (a : Answer) (r : Bool) (e : r ≡ eqb (number a) 0) (ss : List ℕ) wh
   pub not-renewed : not r ≡ true → ss ≡ cond (eqb (number a) 0) allWaiting ss
   not-renewed h = rw (← e, not-true r h)
 
-  pub all-renewed : (s : List ℕ) → not r ≡ false → length ss ≡ vertexLimit → s ≡ paste ss 0 (replicate vertexLimit 0) vertexLimit → s ≡ cond (eqb (number a) 0) allWaiting ss
+  pub all-renewed : (s : List ℕ) → not r ≡ false → length ss ≡ vertexLimit → s ≡ paste ss 0 (replicate vertexLimit 0) vertexLimit
+      → s ≡ cond (eqb (number a) 0) allWaiting ss
   all-renewed s h len q =
       rw (← e, not-false r h)
-      (q ∙ ap₂ _++_ (take-all vertexLimit (replicate vertexLimit 0) (rw length-replicate (omega arith))) (drop-of-length-le ss {i = 0 + vertexLimit} (omega arith)) ∙ append-nil _)
+      (q ∙ ap₂ _++_ (take-all vertexLimit (replicate vertexLimit 0) (rw length-replicate (omega arith)))
+      (drop-of-length-le ss {i = 0 + vertexLimit} (omega arith)) ∙ append-nil _)
 
   pub not-followed : (live left : List ℕ) → not r ≡ true → ss ≡ followed a live ss left
   unfolding followed
