@@ -1,38 +1,19 @@
 -- Edits through the desk that take a vertex out: the states of the others follow. Assumes nothing.
 use mathlib.Core.Path.{_≡_, refl}
-use mathlib.Core.Bool.{Bool, false}
 use mathlib.Core.List.{List}
-use Prim.Native.Nat.{ℕ, zero, suc}
-use lib.Dec.{eqb}
+use Prim.Native.Nat.{ℕ}
 use lib.ListN.{take}
-use Rattle.lists.specs.Lists.{filter, otherThan, itself}
-use Rattle.lists.proofs.Cases.{clash}
+use Rattle.lists.specs.Lists.{otherThan, itself}
 use Rattle.layout.specs.declared.Answer.{Answer}
-use Rattle.layout.specs.Content.{liveVertices}
-use Rattle.layout.specs.Layout.{limit, read}
 use Rattle.layout.specs.Inner.{vertexColumn}
 use Rattle.layout.specs.Answers.{result, onFormed}
 use Rattle.edits.specs.Results.{removeVertexResult, mergeResult}
 use Rattle.removals.specs.Removals.{vertex, removal}
-use Rattle.calls.specs.Calls.{Edit, merge, remove, edit}
+use Rattle.calls.specs.Calls.{merge, remove, edit}
 use Rattle.desk.specs.Desk.{deskOf, outcome, deskEdit}
-use Rattle.desk.proofs.Edits.{liveAfter, edit-unformed, edit-refused, edit-formed, edit-live}
+use Rattle.desk.proofs.Edits.{liveAfter}
 use Rattle.desk_states.specs.Following.{Opened, followed, Followable}
-use Rattle.desk_states.proofs.Removed.{Removes, opened-left, opened-edited}
-
-some-number : (k : ℕ) → eqb k 0 ≡ false → (n : ℕ) × (k ≡ suc n)
-some-number zero e = clash refl e
-some-number (suc n) e = (n, refl)
-
--- an edit after which the live vertices are those that a test keeps
-edit-removes : (e : Edit) (ws : List ℕ) (keeps : ℕ → Bool) → liveAfter e (read limit ws) ≡ filter keeps (liveVertices (read limit ws)) → Removes ws (edit e ws)
-edit-removes e ws keeps l = record {
-  unformed = edit-unformed e ws;
-  refused = λ q. let n = some-number (edit e ws .number) q in edit-refused e ws (n .0) (n .1);
-  formed = λ f. edit-formed ws f e;
-  keeps = keeps;
-  kept = λ f d. rw (edit-live ws f e d) l;
-}
+use Rattle.desk_states.proofs.Removed.{Removes, edit-removes, opened-left, opened-edited}
 
 vertex-removes : (v : ℕ) (ws : List ℕ) → Removes ws (edit (remove (vertex v)) ws)
 unfolding liveAfter

@@ -1,8 +1,8 @@
 -- A call on the table that may take vertices out, through the desk: the noted numbers, and the states that follow. Assumes nothing.
-use mathlib.Core.Path.{_≡_, sym, ap, ap₂, _∙_, subst}
+use mathlib.Core.Path.{_≡_, refl, sym, ap, ap₂, _∙_, subst}
 use mathlib.Core.Bool.{Bool, true, false, not}
 use mathlib.Core.List.{List}
-use Prim.Native.Nat.{ℕ}
+use Prim.Native.Nat.{ℕ, zero, suc}
 use lib.Dec.{eqb}
 use lib.ListN.{take}
 use borrow.Author.Tests.{not-true, not-false, eqb-true}
@@ -19,7 +19,7 @@ use Rattle.layout.proofs.Read.{live-vertices, formed-of}
 use Rattle.calls.specs.Calls.{Edit, edit}
 use Rattle.desk.specs.States.{stateIn, statesBy}
 use Rattle.desk.specs.Desk.{Desk, deskOf, outcome, answering, deskFits, following, edited, deskEdit}
-use Rattle.desk.proofs.Edits.{following-same}
+use Rattle.desk.proofs.Edits.{liveAfter, edit-unformed, edit-refused, edit-formed, edit-live, following-same}
 use Rattle.desk_states.specs.Open.{isOpen}
 use Rattle.desk_states.specs.Following.{Noted, Opened, Survivors, followed, Followable}
 use Rattle.desk_states.proofs.Open.{open-fits, unformed-unfit, shut-unfit, open-few, open-lent}
@@ -31,6 +31,20 @@ pub record Removes (ws : List ℕ) (r : Result) : Type 0 where
   pub formed : wellFormed limit ws ≡ true → wellFormed limit (r .lent) ≡ true
   pub keeps : ℕ → Bool
   pub kept : wellFormed limit ws ≡ true → r .number ≡ 0 → liveVertices (read limit (r .lent)) ≡ filter keeps (liveVertices (read limit ws))
+
+some-number : (k : ℕ) → eqb k 0 ≡ false → (n : ℕ) × (k ≡ suc n)
+some-number zero e = clash refl e
+some-number (suc n) e = (n, refl)
+
+-- an edit after which the live vertices are those that a test keeps
+pub edit-removes : (e : Edit) (ws : List ℕ) (keeps : ℕ → Bool) → liveAfter e (read limit ws) ≡ filter keeps (liveVertices (read limit ws)) → Removes ws (edit e ws)
+edit-removes e ws keeps l = record {
+  unformed = edit-unformed e ws;
+  refused = λ q. let n = some-number (edit e ws .number) q in edit-refused e ws (n .0) (n .1);
+  formed = λ f. edit-formed ws f e;
+  keeps = keeps;
+  kept = λ f d. rw (edit-live ws f e d) l;
+}
 
 -- where the desk does not fit
 unfit-edited : (r : Result) (d : Desk) → deskFits d ≡ false → edited r d ≡ outcome NotWellFormed d

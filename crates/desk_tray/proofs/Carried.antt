@@ -2,10 +2,8 @@
 use mathlib.Core.Path.{_≡_, refl, sym, ap, subst}
 use mathlib.Core.Bool.{Bool, false, not}
 use mathlib.Core.List.{List, map}
-use Prim.Native.Nat.{ℕ, zero, suc}
-use lib.Dec.{eqb}
+use Prim.Native.Nat.{ℕ}
 use lib.ListN.{take}
-use Rattle.lists.proofs.Cases.{clash}
 use Rattle.layout.specs.declared.Answer.{Answer}
 use Rattle.layout.specs.Layout.{vertexCount}
 use Rattle.layout.specs.Inner.{vertexColumn}
@@ -20,10 +18,10 @@ use Rattle.withdraw_tray.specs.Carried.{carriedOut}
 use Rattle.withdraw_tray.proofs.Carried.{tray-result}
 use Rattle.calls.specs.Calls.{edit, withdraw}
 use Rattle.desk.specs.Desk.{deskOf, outcome, edited, deskEdit}
-use Rattle.desk.proofs.Edits.{liveAfter, edit-went, edit-unformed, edit-refused}
+use Rattle.desk.proofs.Edits.{liveAfter}
 use Rattle.desk_states.specs.Open.{isOpen}
 use Rattle.desk_states.specs.Following.{Noted, followed, Followable}
-use Rattle.desk_states.proofs.Removed.{Removes, removed-left, removed-edited}
+use Rattle.desk_states.proofs.Removed.{Removes, edit-removes, removed-left, removed-edited}
 use Rattle.desk_tray.specs.Judged.{Judged}
 
 carried-tray : (ws : List ℕ) (rs : List Withdrawal) → carriedOut (trayOf ws rs) ws ≡ edit (withdraw rs) ws
@@ -34,21 +32,10 @@ pub tray-edited : (ws ss : List ℕ) (rs : List Withdrawal) → edited (carriedO
 unfolding deskEdit
 tray-edited ws ss rs = ap (λ (r : Result). edited r (deskOf ws ss)) (carried-tray ws rs)
 
--- ---- a tray takes vertices out where it is done, and changes nothing where it is refused
-
-refused-stays : (ws : List ℕ) (rs : List Withdrawal) (k : ℕ) → edit (withdraw rs) ws .number ≡ k → eqb k 0 ≡ false → edit (withdraw rs) ws .lent ≡ ws
-refused-stays ws rs zero q h = clash refl h
-refused-stays ws rs (suc n) q h = edit-refused (withdraw rs) ws n q
-
+-- a tray takes vertices out where it is done, and changes nothing where it is refused
 tray-removes : (ws : List ℕ) (rs : List Withdrawal) → Removes ws (edit (withdraw rs) ws)
 unfolding liveAfter
-tray-removes ws rs = record {
-  unformed = edit-unformed (withdraw rs) ws;
-  refused = refused-stays ws rs (edit (withdraw rs) ws .number) refl;
-  formed = λ f. edit-went ws f (withdraw rs) .formed;
-  keeps = staysVertex (map asked rs);
-  kept = λ f. edit-went ws f (withdraw rs) .live;
-}
+tray-removes ws rs = edit-removes (withdraw rs) ws (staysVertex (map asked rs)) refl
 
 -- ---- for `search`
 
