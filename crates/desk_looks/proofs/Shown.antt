@@ -12,10 +12,10 @@ use Rattle.layout.specs.declared.Found.{Found}
 use Rattle.layout.specs.declared.Found.the-variants.{At}
 use Rattle.layout.specs.declared.Answer.the-variants.{Done}
 use Rattle.layout.specs.Content.{liveVertices, position}
-use Rattle.layout.specs.Layout.{limit, vertexLimit, vertexCount, read}
+use Rattle.layout.specs.Layout.{limit, vertexCount, read}
 use Rattle.layout.specs.Inner.{Formed}
 use Rattle.layout.specs.Answers.{Result, result, vertexMissing, listed}
-use Rattle.layout.proofs.Read.{live-length, live-ascends, vertex-found}
+use Rattle.layout.proofs.Read.{live-length, live-ascends}
 use Rattle.layout.proofs.Answers.{on-found}
 use Rattle.marks.specs.Marks.{isMarked, marked}
 use Rattle.marks.proofs.Marked.{marked-filter}
@@ -32,9 +32,6 @@ use Rattle.desk_looks.specs.Held.{MarkedWhere, recordIn, recordFree, hol
 -- ---- the state of a vertex: p is what `find_vertex` returned
 
 module _ (ws ss : List ℕ) (v i : ℕ) (p : Found) (e : p ≡ position v (liveVertices (read limit ws))) (h : p ≡ At i) where
-  pub state-within : Formed limit ws → length ss ≡ vertexLimit → i < length ss
-  state-within f n = omega (arith, vertex-found limit ws v i (sym e ∙ h) .0, f .shape .vertices-le)
-
   -- x is what `state_at` returned
   pub state-told : (x : ℕ) → x ≡ wordAt ss i → result (Done x) [] ≡ stateResult v ss (read limit ws)
   unfolding stateResult

@@ -109,7 +109,7 @@ fn hold_row(m: &[u8; 65536], u: usize, held: &mut [bool; 256])
     }
 }
 
-// The same, unless record u, which is in state x, is released.
+// The same, unless record u is released.
 fn hold_from(m: &[u8; 65536], s: &[u32], u: usize, held: &mut [bool; 256])
     requires { ⌜ (u < vertexLimit) × (length (now s) ≡ vertexLimit) × Held (matrix (now m)) (now s) u (now held) ⌝ }
     ensures { λ _. ⌜ Held (matrix (now (m .entry))) (now (s .entry)) (u + 1) (now (held .exit)) ⌝ }

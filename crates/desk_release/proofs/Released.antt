@@ -1,7 +1,7 @@
 -- What a release answers and leaves. Assumes nothing.
 use mathlib.Core.Path.{_≡_, refl, sym, ap, ap₂, _∙_}
 use mathlib.Core.Bool.{Bool, true, false, not, _||_}
-use mathlib.Core.List.{List}
+use mathlib.Core.List.{List, []}
 use Prim.Native.Nat.{ℕ, _+_, _-_, _≤_, _<_}
 use native.Mathlib.Omega.{arith}
 use lib.Dec.{eqb}
@@ -9,6 +9,7 @@ use lib.ListN.{length, getD, drop, set}
 use borrow.Author.Tests.{eq-eqb, ne-eqb, not-true, not-false}
 use Rattle.lists.specs.Tests.{_and_}
 use Rattle.lists.specs.Lists.{upTo, wordAt}
+use Rattle.lists.proofs.Tab.{length-tab}
 use Rattle.lists.proofs.Flat.{tab-getD}
 use Rattle.layout.specs.declared.VertexIndex.{VertexIndex}
 use Rattle.layout.specs.declared.Found.{Found}
@@ -19,7 +20,7 @@ use Rattle.layout.specs.Layout.{limit, vertexLimit, vertexCount, vertexAt, read
 use Rattle.layout.specs.Inner.{Formed}
 use Rattle.layout.specs.Steps.{hasStep}
 use Rattle.layout.specs.Answers.{Result, result}
-use Rattle.layout.proofs.Read.{live-length, live-at, live-ascends, vertex-found}
+use Rattle.layout.proofs.Read.{live-length, live-at, live-ascends}
 use Rattle.edits.specs.Results.{firstPassingFrom, firstPassing}
 use Rattle.edits.proofs.Passing.{on-first-passing, on-none-first}
 use Rattle.marks.specs.Marks.{isMarked}
@@ -66,6 +67,12 @@ module _ (ss : List ℕ) (marks : List Bool) (n left : ℕ) (whole : Found) (mos
   pub held-none : left ≤ 0 → Nothing ≡ whole
   held-none h = number-none (heldAt ss marks) n (n - left) whole inv (omega arith)
 
+-- n is what `vertex_count` returned, s what `first_held` returned
+pub upstream-within : (ws : List ℕ) (p : ℕ → Bool) (n : ℕ) (s : Found) (k : ℕ) → Formed limit ws → n ≡ vertexCount ws
+    → s ≡ firstPassing p (upTo n) → s ≡ At k → k < vertexLimit
+upstream-within ws p n s k f q e h =
+    let l : k < n = rw length-tab at (on-first-passing p Done [] (result (Done 0) []) 0 (upTo n) k (sym e ∙ h) .0) in omega (arith, f .shape .vertices-le)
+
 -- ---- the first that holds: marks are those of the vertices with a step into v
 
 module _ (ws ss : List ℕ) (v : ℕ) (f : Formed limit ws) (marks : List Bool)
@@ -97,9 +104,6 @@ module _ (ws ss : List ℕ) (v : ℕ) (f : Formed limit ws) (marks : List Bool)
           × (result (upstreamHeld (getD (liveVertices (read limit ws)) k 0)) ss ≡ onUnheld (read limit ws) v ss r)
       found r = on-first-passing (holds (read limit ws) ss v) upstreamHeld ss r 0 (liveVertices (read limit ws)) k (sym first-holds ∙ h)
 
-      pub upstream-within : k < vertexLimit
-      upstream-within = omega (arith, found (result (Done 0) ss) .0, live-length limit ws, f .shape .vertices-le)
-
       -- x is what `vertex_number` returned
       pub upstream-named : (x : ℕ) → x ≡ vertexAt ws k .number → result (UpstreamHeld (record { 0 = x })) ss ≡ releaseReviewedResult v ss (read limit ws)
       unfolding releaseReviewedResult
@@ -116,14 +120,6 @@ module _ (ws ss : List ℕ) (v : ℕ) (f : Formed limit ws) (marks : List Bool)
         ∙ on-none-first (holds (read limit ws) ss v) upstreamHeld ss _ (liveVertices (read limit ws)) (sym first-holds ∙ h)
 
 -- ---- the state of a live vertex: its record is i
-
--- p is what `find_vertex` returned
-module _ (ws : List ℕ) (v i : ℕ) (p : Found) (e : p ≡ position v (liveVertices (read limit ws))) (h : p ≡ At i) where
-  pub record-here : position v (liveVertices (read limit ws)) ≡ At i
-  record-here = sym e ∙ h
-
-  pub record-within : Formed limit ws → i < vertexLimit
-  record-within f = omega (arith, vertex-found limit ws v i record-here .0, f .shape .vertices-le)
 
 module _ (t : Table) (ss : List ℕ) (v : VertexIndex) (i : ℕ) (e : position (v .0) (liveVertices t) ≡ At i) where
   pub released-stays : getD ss i 0 ≡ released → result (Done 0) ss ≡ releaseLiveResult (v .0) ss t

@@ -1,18 +1,15 @@
 -- What a review answers and leaves. Assumes nothing.
 use mathlib.Core.Path.{_≡_, sym, _∙_}
 use mathlib.Core.List.{List}
-use Prim.Native.Nat.{ℕ, _<_}
-use native.Mathlib.Omega.{arith}
-use lib.ListN.{length, getD, set}
+use Prim.Native.Nat.{ℕ}
+use lib.ListN.{getD, set}
 use borrow.Author.Tests.{eq-eqb, ne-eqb}
 use Rattle.layout.specs.declared.Found.{Found}
 use Rattle.layout.specs.declared.Found.the-variants.{At}
 use Rattle.layout.specs.declared.Answer.the-variants.{Done}
 use Rattle.layout.specs.Content.{liveVertices, position}
-use Rattle.layout.specs.Layout.{limit, vertexLimit, read}
-use Rattle.layout.specs.Inner.{Formed}
+use Rattle.layout.specs.Layout.{limit, read}
 use Rattle.layout.specs.Answers.{result, vertexMissing}
-use Rattle.layout.proofs.Read.{vertex-found}
 use Rattle.layout.proofs.Answers.{on-found}
 use Rattle.desk.specs.States.{waiting, reviewed}
 use Rattle.desk.specs.Releases.{onceReviewed, reviewResult}
@@ -31,10 +28,6 @@ stays x ne = rw (ne-eqb x waiting ne)
 -- ---- p is what `find_vertex` returned
 
 module _ (ws ss : List ℕ) (v i : ℕ) (p : Found) (e : p ≡ position v (liveVertices (read limit ws))) (h : p ≡ At i) where
-  -- its record has a state
-  pub state-within : Formed limit ws → length ss ≡ vertexLimit → i < length ss
-  state-within f n = omega (arith, vertex-found limit ws v i (sym e ∙ h) .0, f .shape .vertices-le)
-
   -- exit is what `review_record` left
   pub review-done : (exit : List ℕ) → exit ≡ set ss i (onceReviewed (getD ss i 0)) → result (Done 0) exit ≡ reviewResult v ss (read limit ws)
   unfolding reviewResult

@@ -1,6 +1,7 @@
 -- `desk_looks::state_formed` meets its contract. Assumes nothing.
 use Rattle.desk.specs.Releases.{stateResult}
-use Rattle.desk_looks.proofs.Shown.{state-within, state-told}
+use Rattle.desk_looks.proofs.Shown.{state-told}
+use Rattle.desk_fits.proofs.Looked.{state-within}
 use Rattle.lookups.proofs.Found.{not-found}
 use borrow.Author.Needs.{needs}
 use Rattle.desk_looks.proofs.state_formed.Statement.{statement}

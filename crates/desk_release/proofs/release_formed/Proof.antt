@@ -1,7 +1,7 @@
 -- `desk_release::release_formed` meets its contract. Assumes nothing.
 use Rattle.desk_release.specs.Held.{releaseLiveResult}
 use Rattle.desk.specs.Releases.{releaseResult}
-use Rattle.desk_release.proofs.Released.{record-here, record-within}
+use Rattle.desk_fits.proofs.Looked.{record-here, record-within}
 use Rattle.lookups.proofs.Found.{not-found, found-same}
 use borrow.Author.Needs.{needs}
 use Rattle.desk_release.proofs.release_formed.Statement.{statement}

@@ -1,6 +1,7 @@
 -- `desk_release::review_formed` meets its contract. Assumes nothing.
 use Rattle.desk.specs.Releases.{reviewResult}
-use Rattle.desk_release.proofs.Reviewed.{state-within, review-done}
+use Rattle.desk_release.proofs.Reviewed.{review-done}
+use Rattle.desk_fits.proofs.Looked.{state-within}
 use Rattle.lookups.proofs.Found.{not-found}
 use borrow.Author.Needs.{needs}
 use Rattle.desk_release.proofs.review_formed.Statement.{statement}
