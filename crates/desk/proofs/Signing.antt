@@ -24,6 +24,7 @@ use Rattle.edits.specs.Results.{onFirst}
 use Rattle.desk.specs.States.{waiting, reviewed, released, statesFit, stateAt, stateIn, stateOf, inState, withState}
 use Rattle.desk.specs.Desk.{Desk, deskOf, content, deskFits}
 use Rattle.desk.specs.Releases.{onDesk, onceReviewed, reviewResult, holds, notReviewed, upstreamHeld, onReviewed, releasing, releaseResult}
+use Rattle.desk.proofs.Edits.{desk-fits-of}
 
 -- ---- a live vertex has a record
 
@@ -105,26 +106,18 @@ module _ (t : Table) (ss : List ℕ) (v : ℕ) (live : isLive (liveVertices t) v
 -- ---- a desk that fits
 
 module _ (d : Desk) (fits : deskFits d ≡ true) where
-  pub fits-formed : wellFormed limit (d .table) ≡ true
-  unfolding deskFits
-  fits-formed = and-left _ _ fits
-
-  pub fits-states : statesFit (length (liveVertices (content d))) (d .states) ≡ true
-  unfolding deskFits
-  fits-states = and-right _ _ fits
-
   -- each live vertex has a word
   pub fits-room : length (liveVertices (content d)) ≤ length (d .states)
   unfolding statesFit
   fits-room =
-      let n : length (d .states) ≡ vertexLimit = eqb-true _ _ (and-left _ _ fits-states) in
-      omega (arith, live-length limit (d .table), formed-of limit (d .table) fits-formed .shape .vertices-le)
+      let n : length (d .states) ≡ vertexLimit = eqb-true _ _ (and-left _ _ (desk-fits-of fits .fit)) in
+      omega (arith, live-length limit (d .table), formed-of limit (d .table) (desk-fits-of fits .formed) .shape .vertices-le)
 
   -- the state of one live vertex set, the desk fits
   pub signed-fits : (v x : ℕ) → isLive (liveVertices (content d)) v ≡ true → x < suc released
       → deskFits (deskOf (d .table) (withState (content d) v x (d .states))) ≡ true
   unfolding deskFits
-  signed-fits v x live small = and-both _ _ fits-formed (set-fits (content d) (d .states) v x live small fits-states)
+  signed-fits v x live small = and-both _ _ (desk-fits-of fits .formed) (set-fits (content d) (d .states) v x live small (desk-fits-of fits .fit))
 
 -- ---- the ways that a review and a release can go: refused, with the states as they were, or done; f is what is known there
 

@@ -18,7 +18,7 @@ use Rattle.desk.specs.States.{statesFit}
 use Rattle.desk.specs.Desk.{deskOf, deskFits}
 use Rattle.desk.specs.Releases.{onDesk}
 use Rattle.desk.proofs.States.{states-fit-of}
-use Rattle.desk.proofs.Signing.{fits-formed, fits-states}
+use Rattle.desk.proofs.Edits.{desk-fits-of}
 
 -- ---- the test is made: r is what `well_formed` returned, n what `vertex_count` returned
 
@@ -40,11 +40,11 @@ module _ (ws ss : List ℕ) (r : Bool) (e : r ≡ wellFormed limit ws) where
 
 module _ (ws ss : List ℕ) (r : Bool) (e : r ≡ deskFits (deskOf ws ss)) where
   pub formed-by-desk : not r ≡ false → Formed limit ws
-  formed-by-desk h = formed-of limit ws (fits-formed (deskOf ws ss) (sym e ∙ not-false r h))
+  formed-by-desk h = formed-of limit ws (desk-fits-of (sym e ∙ not-false r h) .formed)
 
   -- there is a state for each record
   pub long-by-desk : not r ≡ false → length ss ≡ vertexLimit
-  long-by-desk h = states-fit-of (fits-states (deskOf ws ss) (sym e ∙ not-false r h)) .sized
+  long-by-desk h = states-fit-of (desk-fits-of (sym e ∙ not-false r h) .fit) .sized
 
   pub on-misfit : (lent : List ℕ) (f : Table → Result) → not r ≡ true → result NotWellFormed lent ≡ onDesk (deskOf ws ss) lent f
   unfolding onDesk

@@ -28,7 +28,8 @@ use Rattle.desk.specs.Desk.{Desk, deskOf, Outcome, outcome, content, deskFits}
 use Rattle.desk.specs.Releases.{onceReviewed, holds}
 use Rattle.desk.specs.Calls.{DeskCall, review, release, signed, deskCall, afterDesk}
 use Rattle.desk.proofs.States.{state-below}
-use Rattle.desk.proofs.Signing.{Free, state-set, state-other, state-reviewed, released-set, released-kept, fits-formed, fits-states, fits-room, signed-fits, review-done, release-again, release-first}
+use Rattle.desk.proofs.Edits.{desk-fits-of}
+use Rattle.desk.proofs.Signing.{Free, state-set, state-other, state-reviewed, released-set, released-kept, fits-room, signed-fits, review-done, release-again, release-first}
 use Rattle.desk_laws.specs.Kept.{Released}
 use Rattle.desk_laws.specs.Down.{Accepts, ForwardIn, AllDone, AllReviewed, AllReleased, pastWaiting, releases}
 use Rattle.desk_laws.proofs.Fits.{done-fits}
@@ -160,7 +161,7 @@ module _ (d : Desk) (v : ℕ) (fits : deskFits d ≡ true) (past : AllReviewed d
   unfolding inState holds
   free new up = record {
     before = new;
-    signed = between _ (state-below _ (liveVertices (content d)) (d .states) (fits-states d fits) v) past-here new;
+    signed = between _ (state-below _ (liveVertices (content d)) (d .states) (desk-fits-of fits .fit) v) past-here new;
     unheld = on (any (holds (content d) (d .states) v) (liveVertices (content d)))
         (λ e.
         let r = any-at (holds (content d) (d .states) v) (liveVertices (content d)) 0 e in
@@ -238,7 +239,7 @@ module _ (d : Desk) (fits : deskFits d ≡ true) (order : List ℕ) (f : Forward
   forward-ordered : Ordered d order
   unfolding Ordered
   forward-ordered k u h s =
-      let l = steps-among (content d) (formed-of limit (d .table) (fits-formed d fits) .content) u (getD order k 0) s .0 in
+      let l = steps-among (content d) (formed-of limit (d .table) (desk-fits-of fits .formed) .content) u (getD order k 0) s .0 in
       let r = memb-at u order (f .same u ∙ l) in
       let b : r .0 < k = f .forward (r .0) k (r .1) h (rw (r .2) s) in
       let m : memb (getD (take k order) (r .0) 0) (take k order) ≡ true = memb-getD (take k order) (r .0) (rw length-take (omega (arith, r .1))) in

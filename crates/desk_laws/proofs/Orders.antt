@@ -33,7 +33,7 @@ use Rattle.structural.proofs.Sorting.{closed-or-smallest, closed-answers, small
 use Rattle.desk.specs.Desk.{Desk, content, deskFits}
 use Rattle.desk.specs.Releases.{onDesk}
 use Rattle.desk.specs.Orders.{atFault, firstFault, stopsShort, onAccepted, acceptResult}
-use Rattle.desk.proofs.Signing.{fits-formed}
+use Rattle.desk.proofs.Edits.{desk-fits-of}
 use Rattle.desk_laws.specs.Down.{acceptCall, Accepts, ForwardIn, FirstFault}
 use Rattle.desk_laws.proofs.Repeats.{distinct-of, ascending-distinct, distinct-shorter, distinct-covers, first-none, none-first, first-at, at-first}
 
@@ -153,7 +153,7 @@ listed-done l lent q =
 
 module _ (d : Desk) (fits : deskFits d ≡ true) where
   formed : Formed limit (d .table)
-  formed = formed-of limit (d .table) (fits-formed d fits)
+  formed = formed-of limit (d .table) (desk-fits-of fits .formed)
 
   call-is : (order : List ℕ) → acceptCall order d ≡ acceptResult order (content d)
   unfolding onDesk
@@ -185,7 +185,7 @@ module _ (d : Desk) (fits : deskFits d ≡ true) where
   pub sort-accepted : (lent : List ℕ) → onFormed (d .table) lent (sortResult lent) .number ≡ 0
       → Accepts d (take (onFormed (d .table) lent (sortResult lent) .detail) (onFormed (d .table) lent (sortResult lent) .lent))
   sort-accepted lent q =
-      let c : onFormed (d .table) lent (sortResult lent) ≡ sortResult lent (content d) = formed-result (d .table) lent (sortResult lent) (fits-formed d fits) in
+      let c : onFormed (d .table) lent (sortResult lent) ≡ sortResult lent (content d) = formed-result (d .table) lent (sortResult lent) (desk-fits-of fits .formed) in
       ⊎-elim
       (λ (closed : ClosedIn (content d)). absurd (let z : _≡_ {A = ℕ} 9 0 = rw (c, closed-answers formed lent closed .0) at q in omega arith))
       (λ (s : (l : List ℕ) × SmallestIn (content d) l).

@@ -23,7 +23,8 @@ use Rattle.desk.specs.Desk.{Desk, deskOf, content, deskFits}
 use Rattle.desk.specs.Releases.{holds, isReleasable, releasable}
 use Rattle.desk.specs.Calls.{DeskCall, through, review, release, deskCall, afterDesk}
 use Rattle.desk.proofs.States.{waiting-all}
-use Rattle.desk.proofs.Signing.{Free, released-reviewed, released-kept, released-other, fits-formed, fits-room, review-goes, release-goes, release-first}
+use Rattle.desk.proofs.Edits.{desk-fits-of}
+use Rattle.desk.proofs.Signing.{Free, released-reviewed, released-kept, released-other, fits-room, review-goes, release-goes, release-first}
 use Rattle.desk_laws.specs.Kept.{Released, UpstreamReleased, signs}
 
 -- ---- at the moment of a release
@@ -35,7 +36,7 @@ unfolding holds
 unheld-upstream d v fits none u s =
     on (inState (content d) (d .states) released u) (λ e. e)
     (λ e.
-    let live = steps-among (content d) (formed-of limit (d .table) (fits-formed d fits) .content) u v s .0 in
+    let live = steps-among (content d) (formed-of limit (d .table) (desk-fits-of fits .formed) .content) u v s .0 in
     let r = memb-at u (liveVertices (content d)) live in
     clash (any-of (holds (content d) (d .states) v) (liveVertices (content d)) 0 (r .0) (r .1) (rw (r .2) (and-both _ _ s (ap not e)))) none)
 

@@ -15,15 +15,12 @@ ghost use Rattle.desk.specs.States.{reviewed};
 ghost use Rattle.desk.specs.Desk.{deskOf};
 ghost use Rattle.desk.specs.Releases.{onDesk, stateResult, listResult, releasableResult};
 ghost use Rattle.desk_looks.specs.Held.{MarkedWhere, recordIn, recordFree, Held, Joined};
+use desk::RELEASED;
+use desk::REVIEWED;
 use desk_fits::desk_fits;
 use layout::Answer;
 use layout::Found;
 use layout::VertexIndex;
-
-// The states of a vertex.
-const REVIEWED: u32 = 1;
-
-const RELEASED: u32 = 2;
 
 fn state_formed(t: &[u32], s: &[u32], v: VertexIndex) -> Answer
     requires { ⌜ Formed limit (now t) ⌝ }

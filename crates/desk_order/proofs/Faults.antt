@@ -35,8 +35,8 @@ use Rattle.steps.specs.Matrices.{stepsBetween}
 use Rattle.steps.specs.Inner.{Holds}
 use Rattle.steps.proofs.Holds.{holds-matrix}
 use Rattle.edits.specs.Results.{firstPassingFrom, firstPassing}
+use Rattle.edits.proofs.Passing.{passing-on, passing-here, passing-none}
 use Rattle.desk.specs.Orders.{atFault, firstFault, stopsShort, acceptResult}
-use Rattle.desk_fits.proofs.Passing.{number-on, number-here, number-none}
 use Rattle.desk_order.specs.Placed.{meetsAt, misplaced, Placed, PlacedNext, Judged, onLength}
 
 -- a mark of the matrix is of a record that is there
@@ -168,13 +168,13 @@ module _ (t : Table) (order : List ℕ) (i : ℕ) (placed : List Bool) (j : Judg
   -- r and next are what `is_at_fault` returned and left
   module _ (r : Bool) (next : List Bool) (d : Judged t order i r next) (h : i < length order) where
     pub judging-on : r ≡ false → Judging t order (i + 1) next
-    judging-on q = record { within = omega arith; so-far = d .placed q; left = number-on (atFault t order) (length order) i _ (j .left) r (d .told) h q }
+    judging-on q = record { within = omega arith; so-far = d .placed q; left = passing-on (atFault t order) (λ k. k) (length order) i _ (j .left) (length order) refl r (d .told) h q }
 
     pub judging-here : r ≡ true → At i ≡ firstFault t order
-    judging-here q = number-here (atFault t order) (length order) i _ (j .left) r (d .told) h q
+    judging-here q = passing-here (atFault t order) (λ k. k) (length order) i _ (j .left) (length order) refl r (d .told) h q
 
   pub judging-none : length order ≤ i → Nothing ≡ firstFault t order
-  judging-none h = number-none (atFault t order) (length order) i _ (j .left) h
+  judging-none h = passing-none (atFault t order) (λ k. k) (length order) i _ (j .left) (length order) refl h
 
 -- ---- answers: s is what `first_fault` returned
 

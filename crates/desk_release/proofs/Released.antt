@@ -22,6 +22,7 @@ use Rattle.layout.specs.Steps.{hasStep}
 use Rattle.layout.specs.Answers.{Result, result}
 use Rattle.layout.proofs.Read.{live-length, live-at, live-ascends}
 use Rattle.edits.specs.Results.{firstPassingFrom, firstPassing}
+use Rattle.edits.proofs.Passing.{passing-on, passing-here, passing-none}
 use Rattle.edits.proofs.Passing.{on-first-passing, on-none-first}
 use Rattle.marks.specs.Marks.{isMarked}
 use Rattle.lookups.specs.declared.Direction.the-variants.{To}
@@ -32,7 +33,7 @@ use Rattle.lookups.proofs.Marking.{no-mark}
 use Rattle.desk.specs.States.{reviewed, released, withState}
 use Rattle.desk.specs.Releases.{holds, upstreamHeld, onReviewed, onUnheld, releasing}
 use Rattle.desk_fits.proofs.Looked.{in-state-found, in-state-at, with-state-found}
-use Rattle.desk_fits.proofs.Passing.{number-on, number-here, number-none, first-same}
+use Rattle.desk_fits.proofs.Passing.{first-same}
 use Rattle.desk_release.specs.Held.{heldAt, releaseReviewedResult, releaseLiveResult}
 
 -- ---- a record, by its mark and its state
@@ -58,14 +59,14 @@ module _ (ss : List ℕ) (marks : List Bool) (n left : ℕ) (whole : Found) (mos
     unfolding heldAt
     held-on q =
         let s : n - (left - 1) ≡ n - left + 1 = omega arith in
-        rw s (number-on (heldAt ss marks) n (n - left) whole inv r e (omega arith) q)
+        rw s (passing-on (heldAt ss marks) (λ k. k) n (n - left) whole inv n refl r e (omega arith) q)
 
     pub held-here : r ≡ true → At (n - left) ≡ whole
     unfolding heldAt
-    held-here q = number-here (heldAt ss marks) n (n - left) whole inv r e (omega arith) q
+    held-here q = passing-here (heldAt ss marks) (λ k. k) n (n - left) whole inv n refl r e (omega arith) q
 
   pub held-none : left ≤ 0 → Nothing ≡ whole
-  held-none h = number-none (heldAt ss marks) n (n - left) whole inv (omega arith)
+  held-none h = passing-none (heldAt ss marks) (λ k. k) n (n - left) whole inv n refl (omega arith)
 
 -- n is what `vertex_count` returned, s what `first_held` returned
 pub upstream-within : (ws : List ℕ) (p : ℕ → Bool) (n : ℕ) (s : Found) (k : ℕ) → Formed limit ws → n ≡ vertexCount ws

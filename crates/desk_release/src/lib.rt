@@ -17,19 +17,15 @@ ghost use Rattle.desk.specs.States.{released};
 ghost use Rattle.desk.specs.Desk.{deskOf};
 ghost use Rattle.desk.specs.Releases.{onDesk, onceReviewed, reviewResult, releaseResult};
 ghost use Rattle.desk_release.specs.Held.{heldAt, releaseReviewedResult, releaseLiveResult};
+use desk::RELEASED;
+use desk::REVIEWED;
+use desk::WAITING;
 use desk_fits::desk_fits;
 use layout::Answer;
 use layout::Found;
 use layout::VertexIndex;
 use lookups::Direction;
 use lookups::Relation;
-
-// The states of a vertex.
-const WAITING: u32 = 0;
-
-const REVIEWED: u32 = 1;
-
-const RELEASED: u32 = 2;
 
 // What a review makes of a state.
 fn once_reviewed(x: u32) -> u32

@@ -20,9 +20,9 @@ use Rattle.layout.specs.Inner.{Formed}
 use Rattle.layout.specs.Answers.{Result, result}
 use Rattle.edits.specs.Results.{onFirst, byNumber, firstPassingFrom, firstPassing}
 
--- ---- a loop over j, with `drop j` of the hyperedges left; r is what the code found of hyperedge j
+-- ---- a loop over j, with `drop j` of the list left; r is what the code found of element j
 
-module _ (p : Hyperedge → Bool) (f : ℕ → Hyperedge) (n j : ℕ) (whole : Found) (inv : firstPassingFrom p j (drop j (tab f n)) ≡ whole) (m : ℕ) (em : m ≡ n) where
+module _ {A : Type 0} (p : A → Bool) (f : ℕ → A) (n j : ℕ) (whole : Found) (inv : firstPassingFrom p j (drop j (tab f n)) ≡ whole) (m : ℕ) (em : m ≡ n) where
   pub passing-on : (r : Bool) → r ≡ p (f j) → j < m → r ≡ false → firstPassingFrom p (j + 1) (drop (j + 1) (tab f n)) ≡ whole
   unfolding firstPassingFrom
   passing-on r e h q =
