@@ -1,11 +1,12 @@
-/* Times the queries on full tables: 256 vertices, 192 hyperedges of 32 members. */
+/* Times the queries and the calls of the release desk on full tables: 256 vertices, 192 hyperedges of 32 members. */
 #include "tables.h"
 #include "timing.h"
 #include "vaultsorrel.h"
 
 enum { ROOM = 140000 };
 
-static uint32_t full[WORDS], ascending[WORDS], nested[WORDS], copy[WORDS], out[ROOM];
+static uint32_t full[WORDS], ascending[WORDS], nested[WORDS], gaps[WORDS], copy[WORDS], out[ROOM];
+static uint32_t waiting[VERTICES], held[VERTICES], free_to_go[VERTICES], states[VERTICES], order[VERTICES];
 static uint8_t text[ROOM];
 static const uint32_t pair[2] = {17, 18};
 
@@ -23,10 +24,45 @@ static const uint32_t pair[2] = {17, 18};
 
 #define QUERY(what, limit_ns, call) ANSWER(what, "full, dense numbers", 0, limit_ns, call)
 
+/* A call that writes the states, each time on a fresh copy of them. */
+static vs_reply on_states(const uint32_t *table, const uint32_t *from, uint32_t v,
+                          vs_reply (*call)(const uint32_t *, size_t, uint32_t *, size_t, vs_vertex)) {
+    memcpy(states, from, sizeof states);
+    return call(table, WORDS, states, VERTICES, V(v));
+}
+
+/* Vertex 100 reviewed and all others released, in `held` but the last that has a step into it. */
+static void fill_states(const uint32_t *table) {
+    vs_reply r = vs_get_adjacent_vertices_to(table, WORDS, V(100), out, ROOM);
+    for (int i = 0; i < VERTICES; i++)
+        held[i] = free_to_go[i] = i == 100 ? 1 : 2;
+    held[out[r.detail - 1]] = 1;
+}
+
+static void time_desk(void) {
+    const char *dense = "full, dense numbers", *forward = "full, dense, lists ascending", *apart = "gaps of 1 to 1,000";
+    const uint32_t v = gaps[VERTICES_AT + 200];
+    puts("The release desk, the tests of table and states and a copy of the states included.");
+    table_head();
+    fill_states(full);
+    ANSWER("desk_review", dense, 0, 8000, on_states(full, waiting, 100, vs_desk_review));
+    ANSWER("desk_review", apart, 0, 40000, on_states(gaps, waiting, v, vs_desk_review));
+    ANSWER("desk_release", dense, 0, 8000, on_states(full, free_to_go, 100, vs_desk_release));
+    ANSWER("desk_release, refused 18", dense, 18, 8000, on_states(full, held, 100, vs_desk_release));
+    ANSWER("desk_release", apart, 0, 40000, on_states(gaps, free_to_go, v, vs_desk_release));
+    const size_t count = vs_topological_sort(ascending, WORDS, order, VERTICES).detail;
+    ANSWER("desk_accept_order", forward, 0, 40000, vs_desk_accept_order(ascending, WORDS, waiting, VERTICES, order, count));
+    ANSWER("desk_accept_order, refused", dense, 19, 40000, vs_desk_accept_order(full, WORDS, waiting, VERTICES, order, count));
+    ANSWER("desk_state", dense, 0, 8000, vs_desk_state(full, WORDS, held, VERTICES, V(100)));
+    ANSWER("desk_list", dense, 0, 8000, vs_desk_list(full, WORDS, held, VERTICES, 2, out, ROOM));
+    ANSWER("desk_releasable", dense, 0, 40000, vs_desk_releasable(full, WORDS, held, VERTICES, out, ROOM));
+}
+
 int main(void) {
     fill_dense(full);
     fill_ascending(ascending);
     fill_nested(nested);
+    fill_gaps(gaps);
     puts("Queries, the test of the table included.");
     table_head();
     QUERY("adjacent_vertices_from", 8000, vs_get_adjacent_vertices_from(full, WORDS, V(100), out, ROOM));
@@ -66,5 +102,6 @@ int main(void) {
     QUERY("write_frames", 60000, vs_write_frames(full, WORDS, text, sizeof text));
     QUERY("read_frames", 150000, vs_read_frames(copy, WORDS, text, bytes));
     QUERY("random_walk of 4,096 steps", 2500000, vs_random_walk(full, WORDS, V(0), 4096, 1, out, ROOM));
+    time_desk();
     return 0;
 }

@@ -10,10 +10,11 @@
 enum { STACK = 1 << 20, PAINT = 0xA5, ROOM = 140000 };
 
 static uint8_t stack[STACK], *called_at;
-static uint32_t tables[4][WORDS], table[WORDS], list[MEMBERS], out[ROOM];
+static uint32_t tables[4][WORDS], table[WORDS], states[VERTICES], list[MEMBERS], out[ROOM];
 static uint8_t text[ROOM];
 static vs_withdrawal tray[2 * MEMBERS];
-static arguments lent = {.table = table, .words = WORDS, .list = list, .tray = tray, .size = 4096, .seed = 1, .text = text, .out = out, .room = ROOM};
+static arguments lent = {.table = table, .words = WORDS, .states = states, .state_words = VERTICES, .list = list, .tray = tray,
+                         .size = 4096, .seed = 1, .text = text, .out = out, .room = ROOM};
 static ucontext_t back, apart;
 static int running;
 
@@ -36,6 +37,8 @@ static void run_apart(void) {
 /* The bytes that the call needs below the frame that makes it. */
 static size_t needed(const uint32_t *from) {
     memcpy(table, from, sizeof table);
+    for (int i = 0; i < VERTICES; i++)
+        states[i] = 1;
     memset(stack, PAINT, sizeof stack);
     getcontext(&apart);
     apart.uc_stack.ss_sp = stack;

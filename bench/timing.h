@@ -29,13 +29,13 @@ static int by_value(const void *a, const void *b) {
 }
 
 static void table_head(void) {
-    printf("%-26s %-34s %9s %9s %9s  %s\n", "what", "table", "median", "least", "limit", "median/limit");
+    printf("%-32s %-34s %9s %9s %9s  %s\n", "what", "table", "median", "least", "limit", "median/limit");
 }
 
 static void table_row(const char *what, const char *table, double limit_ns) {
     qsort(times, (size_t)rounds, sizeof *times, by_value);
     double median = times[rounds / 2];
-    printf("%-26s %-34s %9.0f %9.0f %9.0f  %4.2f\n", what, table, median, times[0], limit_ns, median / limit_ns);
+    printf("%-32s %-34s %9.0f %9.0f %9.0f  %4.2f\n", what, table, median, times[0], limit_ns, median / limit_ns);
 }
 
 /* Fills `times` with the time of a call, each round's mean. */

@@ -2,6 +2,7 @@
 #include "functions.h"
 
 #define T a->table, a->words
+#define S a->states, a->state_words
 #define X ((vs_vertex){a->x})
 #define Y ((vs_vertex){a->y})
 #define E ((vs_hyperedge){a->x})

@@ -4,10 +4,12 @@
 #include <stddef.h>
 #include "vaultsorrel.h"
 
-/* What a call hands in. x and y are numbers or weights, size is a length or a count of steps, room counts words (text: bytes). */
+/* What a call hands in. x and y are numbers, weights or a state, size is a length or a count of steps, room counts words (text: bytes). */
 typedef struct {
     uint32_t *table;
     size_t words;
+    uint32_t *states;
+    size_t state_words;
     uint32_t x, y;
     const uint32_t *list;
     size_t count;
@@ -23,7 +25,7 @@ typedef struct {
 
 /* What a function takes. */
 enum { VERTEX = 1, HYPEREDGE = 2, WEIGHT = 4, SECOND = 8, MEMBERS_LIST = 16, HYPEREDGES_LIST = 32, SIZE = 64, WALK = 128, OUT = 256, TEXT = 512, READ = 1024,
-       TRAY = 2048 };
+       TRAY = 2048, DESK = 4096, ORDER = 8192, STATE = 16384 };
 
 #define FUNCTIONS(F)                                                                                        \
     F(add_vertex, WEIGHT, (T, a->x))                                                                        \
@@ -68,7 +70,22 @@ enum { VERTEX = 1, HYPEREDGE = 2, WEIGHT = 4, SECOND = 8, MEMBERS_LIST = 16, HYP
     F(get_dijkstra_from, VERTEX | OUT, (T, X, O))                                                           \
     F(random_walk, VERTEX | WALK | OUT, (T, X, a->size, a->seed, O))                                        \
     F(write_frames, TEXT, (T, O))                                                                           \
-    F(read_frames, READ, (T, a->text, a->bytes))
+    F(read_frames, READ, (T, a->text, a->bytes))                                                            \
+    F(desk_add_vertex, DESK | WEIGHT, (T, S, a->x))                                                         \
+    F(desk_add_hyperedge, DESK | WEIGHT | MEMBERS_LIST, (T, S, L, a->x))                                    \
+    F(desk_update_hyperedge_vertices, DESK | HYPEREDGE | MEMBERS_LIST, (T, S, E, L))                        \
+    F(desk_remove_vertex, DESK | VERTEX, (T, S, X))                                                         \
+    F(desk_remove_hyperedge, DESK | HYPEREDGE, (T, S, E))                                                   \
+    F(desk_merge_vertices, DESK | VERTEX | SECOND, (T, S, X, Y))                                            \
+    F(desk_withdraw_tray, DESK | TRAY, (T, S, R))                                                           \
+    F(desk_clear, DESK, (T, S))                                                                             \
+    F(desk_read_frames, DESK | READ, (T, S, a->text, a->bytes))                                             \
+    F(desk_review, DESK | VERTEX, (T, S, X))                                                                \
+    F(desk_release, DESK | VERTEX, (T, S, X))                                                               \
+    F(desk_accept_order, DESK | ORDER, (T, S, L))                                                           \
+    F(desk_state, DESK | VERTEX, (T, S, X))                                                                 \
+    F(desk_list, DESK | STATE | OUT, (T, S, a->x, O))                                                       \
+    F(desk_releasable, DESK | OUT, (T, S, O))
 
 #define NUMBER_OF(name, takes, words) F_##name,
 enum { FUNCTIONS(NUMBER_OF) COUNT_OF_FUNCTIONS };

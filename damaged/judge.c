@@ -1035,17 +1035,152 @@ static void judge_read_frames(const content *c, const arguments *a, verdict *v) 
     write_table(&told, v);
 }
 
+/* ---- The release desk */
+
+enum { WAITING, REVIEWED, RELEASED };
+
+/* 256 words, none over 2, and 0 behind those of the live vertices. */
+static bool states_fit(const content *c, const arguments *a) {
+    if (a->state_words != STATES)
+        return false;
+    EACH(i, STATES)
+        if (a->states[i] > RELEASED)
+            return false;
+    return all_zero(a->states + c->n, a->states + STATES);
+}
+
+/* After an edit that changed the table: each vertex has the state that it had, and a new one waits. */
+static void let_states_follow(const content *c, const arguments *a, verdict *v) {
+    static content after;
+    if (!v->changed)
+        return;
+    judge_table(v->table, TABLE, &after);
+    memset(v->states, 0, sizeof v->states);
+    EACH(i, after.n) {
+        int was = place_of_vertex(c, after.vertex[i]);
+        v->states[i] = was < 0 ? WAITING : a->states[was];
+    }
+    v->moved = true;
+}
+
+/* After a clear or a read: all wait, where it is done. */
+static void let_all_wait(verdict *v) {
+    memset(v->states, 0, sizeof v->states);
+    v->moved = v->number == 0;
+}
+
+#define JUDGE_DESK_EDIT(name)                                                                  \
+    static void judge_desk_##name(const content *c, const arguments *a, verdict *v) {          \
+        judge_##name(c, a, v);                                                                 \
+        let_states_follow(c, a, v);                                                            \
+    }
+
+JUDGE_DESK_EDIT(add_vertex)
+JUDGE_DESK_EDIT(add_hyperedge)
+JUDGE_DESK_EDIT(update_hyperedge_vertices)
+JUDGE_DESK_EDIT(remove_vertex)
+JUDGE_DESK_EDIT(remove_hyperedge)
+JUDGE_DESK_EDIT(merge_vertices)
+JUDGE_DESK_EDIT(withdraw_tray)
+
+static void judge_desk_clear(const content *c, const arguments *a, verdict *v) {
+    judge_clear(c, a, v);
+    let_all_wait(v);
+}
+
+static void judge_desk_read_frames(const content *c, const arguments *a, verdict *v) {
+    judge_read_frames(c, a, v);
+    let_all_wait(v);
+}
+
+static void set_state(const arguments *a, int place, uint32_t state, verdict *v) {
+    memcpy(v->states, a->states, sizeof v->states);
+    v->states[place] = state;
+    v->moved = true;
+}
+
+static void judge_desk_review(const content *c, const arguments *a, verdict *v) {
+    int x = live_vertex(c, a->x, v);
+    if (x >= 0 && a->states[x] == WAITING)
+        set_state(a, x, REVIEWED, v);
+}
+
+/* The lowest vertex with a step into x that is not released, or -1. */
+static int held_by(const content *c, const arguments *a, int x) {
+    int lowest = -1;
+    EACH_STEP(c, j, i) {
+        int from = c->member[j][i];
+        if (c->member[j][i + 1] == x && a->states[from] != RELEASED && (lowest < 0 || from < lowest))
+            lowest = from;
+    }
+    return lowest;
+}
+
+static void judge_desk_release(const content *c, const arguments *a, verdict *v) {
+    int x = live_vertex(c, a->x, v);
+    if (x < 0 || a->states[x] == RELEASED)
+        return;
+    if (a->states[x] == WAITING)
+        SAY(17, a->x);
+    int by = held_by(c, a, x);
+    if (by >= 0)
+        SAY(18, c->vertex[by]);
+    set_state(a, x, RELEASED, v);
+}
+
+/* Whether a step leads from x to itself or to a vertex that is placed. */
+static bool steps_back(const content *c, const bool *placed, int x) {
+    EACH(y, c->n)
+        if (step[x][y] && (y == x || placed[y]))
+            return true;
+    return false;
+}
+
+static void judge_desk_accept_order(const content *c, const arguments *a, verdict *v) {
+    bool placed[MOST_VERTICES] = {false};
+    find_steps(c);
+    for (size_t k = 0; k < a->count; k++) {
+        int x = place_of_vertex(c, a->list[k]);
+        if (x < 0 || placed[x] || steps_back(c, placed, x))
+            SAY(19, k);
+        placed[x] = true;
+    }
+    if (a->count < (size_t)c->n)
+        SAY(19, a->count);
+}
+
+static void judge_desk_state(const content *c, const arguments *a, verdict *v) {
+    int x = live_vertex(c, a->x, v);
+    if (x >= 0)
+        say(v, 0, a->states[x]);
+}
+
+static void judge_desk_list(const content *c, const arguments *a, verdict *v) {
+    EACH(x, c->n)
+        if (a->states[x] == a->x)
+            put(v, c->vertex[x]);
+}
+
+static void judge_desk_releasable(const content *c, const arguments *a, verdict *v) {
+    EACH(x, c->n)
+        if (a->states[x] == REVIEWED && held_by(c, a, x) < 0)
+            put(v, c->vertex[x]);
+}
+
 /* ---- The verdict */
 
 #define JUDGE_OF(name, takes, words) judge_##name,
 static void (*const judges[COUNT_OF_FUNCTIONS])(const content *, const arguments *, verdict *) = {FUNCTIONS(JUDGE_OF)};
 
 void judge(int function, const content *c, const arguments *a, verdict *v) {
-    v->changed = false;
+    v->changed = v->moved = false;
     v->listed = 0;
     say(v, 0, 0);
-    bool whatever_it_holds = function == F_clear || function == F_read_frames;
+    bool anew_at_desk = function == F_desk_clear || function == F_desk_read_frames;
+    bool whatever_it_holds = anew_at_desk || function == F_clear || function == F_read_frames;
     if (whatever_it_holds ? !c->sized : !c->formed)
+        SAY(1, 0);
+    if (functions[function].takes & DESK && !(anew_at_desk ? a->state_words == STATES : states_fit(c, a)))
         SAY(1, 0);
     judges[function](c, a, v);
     if (v->number == 0 && v->listed > 0)

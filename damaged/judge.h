@@ -4,7 +4,7 @@
 #include <stdbool.h>
 #include "functions.h"
 
-enum { TABLE = 7236, MOST_VERTICES = 256, MOST_HYPEREDGES = 192, MOST_MEMBERS = 32, MOST_WORDS = 140000 };
+enum { TABLE = 7236, STATES = 256, MOST_VERTICES = 256, MOST_HYPEREDGES = 192, MOST_MEMBERS = 32, MOST_WORDS = 140000 };
 
 /* What a table holds. Members are kept as places among the vertices. */
 typedef struct {
@@ -16,12 +16,14 @@ typedef struct {
     int count[MOST_HYPEREDGES], member[MOST_HYPEREDGES][MOST_MEMBERS];
 } content;
 
-/* The verdict on a call whose answer slice is long enough. `changed`: `table` is the table after it. */
+/* The verdict on a call whose answer slice is long enough. `changed`: `table` is the table after it; `moved`: `states` are the states. */
 typedef struct {
     uint32_t number;
     uint64_t detail;
     bool changed;
     uint32_t table[TABLE];
+    bool moved;
+    uint32_t states[STATES];
     size_t listed;
     union {
         uint32_t words[MOST_WORDS];

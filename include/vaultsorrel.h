@@ -1,12 +1,13 @@
 /* Vaultsorrel's C interface.
  *
- * A table is a caller's slice of exactly 7,236 words; an answer goes into another slice of the caller's. Any pointer and
- * count that name real memory may be handed in: not null (also where the count is 0), aligned for the type, no two of one
- * call overlapping. Whatever stands in that memory, a call answers or refuses, and a refusal changes nothing.
+ * A table is a caller's slice of exactly 7,236 words; an answer goes into another slice of the caller's. The states of the release
+ * desk are a slice of exactly 256 words, apart from the table. Any pointer and count that name real memory may be handed in: not
+ * null (also where the count is 0), aligned for the type, no two of one call overlapping. Whatever stands in that memory, a call
+ * answers or refuses, and a refusal changes nothing.
  *
  * A reply's number is 0 (done), or the refusal:
  *
- *    1  the table is not well formed
+ *    1  the table is not well formed, or the states do not fit it
  *    2  the member list is empty                        detail: the weight (add) or the hyperedge (update)
  *    3  a vertex is not live                            detail: the first missing one
  *    4  a hyperedge is not live                         detail: the first missing one
@@ -21,10 +22,13 @@
  *   13  a vertex is merged into itself                  detail: the vertex
  *   14  vertices to merge stand side by side            detail: the lowest hyperedge in which they do
  *   15  a record is of another kind or not live         detail: the position of the first such record, from 0
+ *   17  the vertex to release is not reviewed           detail: the vertex
+ *   18  something upstream is not released              detail: the lowest vertex with a step into it that is not released
+ *   19  the order is not accepted                       detail: the place at fault, from 0, or the order's length
  *   20  the member list has two equal neighbours        detail: the first member that equals the one after it
  *
- * Where a call is done, the detail is the number given (adds), 1 or 0 (yes or no), the count (degrees), the words or bytes
- * written (listings), else 0. A listing is written from the front of the slice, and the rest of the slice is kept.
+ * Where a call is done, the detail is the number given (adds), 1 or 0 (yes or no), the count (degrees), the state (vs_desk_state),
+ * the words or bytes written (listings), else 0. A listing is written from the front of the slice, and the rest of the slice is kept.
  *
  * A call needs at most 192 KiB of stack (measured and added up from the frames: 155 KiB, bench/stack) and no other memory.
  */
@@ -38,7 +42,7 @@
 extern "C" {
 #endif
 
-enum { VS_TABLE_WORDS = 7236 };
+enum { VS_TABLE_WORDS = 7236, VS_STATES_WORDS = 256 };
 
 typedef struct {
     uint32_t number;
@@ -61,6 +65,9 @@ typedef struct {
 } vs_withdrawal;
 
 enum { VS_VERTEX_KIND = 0, VS_HYPEREDGE_KIND = 1 };
+
+/* What a vertex is at the release desk. */
+enum { VS_WAITING = 0, VS_REVIEWED = 1, VS_RELEASED = 2 };
 
 /* ---- Edits */
 
@@ -210,6 +217,57 @@ vs_reply vs_write_frames(const uint32_t *table, size_t table_words, uint8_t *tex
 /* The table that the text was written from, next numbers included; what the table held before does not matter. Refusals 1 (only
  * for a wrong number of words), 12. */
 vs_reply vs_read_frames(uint32_t *table, size_t table_words, const uint8_t *text, size_t text_bytes);
+
+/* ---- The release desk. A vertex is released once it is reviewed and every vertex with a step into it is released.
+ *
+ * The states are a second lent slice, of 256 words, one for each vertex record: 0 waiting, 1 reviewed, 2 released. They must not overlap
+ * the table. They fit a table where there are 256 of them, none is over 2, and each record that is not in use has 0; 256 words of 0 fit every
+ * table. Every desk call but vs_desk_clear and vs_desk_read_frames gives 1 for states that do not fit. A refused call changes neither table
+ * nor states. */
+
+/* The edits, through the desk: answer, refusals and table are those of the edit, with 1 also for states that do not fit. Each vertex
+ * keeps its state, whichever record it stands in after the edit; a new one waits, and one that is removed, alone, in a tray or as the w
+ * of a merge, loses its state. */
+vs_reply vs_desk_add_vertex(uint32_t *table, size_t table_words, uint32_t *states, size_t states_words, uint32_t weight);
+vs_reply vs_desk_add_hyperedge(uint32_t *table, size_t table_words, uint32_t *states, size_t states_words, const uint32_t *members,
+                               size_t count, uint32_t weight);
+vs_reply vs_desk_update_hyperedge_vertices(uint32_t *table, size_t table_words, uint32_t *states, size_t states_words,
+                                           vs_hyperedge hyperedge, const uint32_t *members, size_t count);
+vs_reply vs_desk_remove_vertex(uint32_t *table, size_t table_words, uint32_t *states, size_t states_words, vs_vertex vertex);
+vs_reply vs_desk_remove_hyperedge(uint32_t *table, size_t table_words, uint32_t *states, size_t states_words, vs_hyperedge hyperedge);
+vs_reply vs_desk_merge_vertices(uint32_t *table, size_t table_words, uint32_t *states, size_t states_words, vs_vertex v, vs_vertex w);
+vs_reply vs_desk_withdraw_tray(uint32_t *table, size_t table_words, uint32_t *states, size_t states_words, const vs_withdrawal *records,
+                               size_t count);
+
+/* Every word of table and states becomes 0, whatever it was. Refusal 1 for another length of either only. */
+vs_reply vs_desk_clear(uint32_t *table, size_t table_words, uint32_t *states, size_t states_words);
+
+/* The table that the text was written from, and every state 0; what both held before does not matter. Refusals 1 (only for a wrong
+ * number of words of either), 12. */
+vs_reply vs_desk_read_frames(uint32_t *table, size_t table_words, uint32_t *states, size_t states_words, const uint8_t *text,
+                             size_t text_bytes);
+
+/* A waiting vertex becomes reviewed; a reviewed or released one stays what it is. Writes its state alone. Refusals 1, 3. */
+vs_reply vs_desk_review(const uint32_t *table, size_t table_words, uint32_t *states, size_t states_words, vs_vertex vertex);
+
+/* The vertex becomes released; where it is, nothing changes. Writes its state alone. Refusals 1, 3; where it is not released also 17, 18. */
+vs_reply vs_desk_release(const uint32_t *table, size_t table_words, uint32_t *states, size_t states_words, vs_vertex vertex);
+
+/* Whether the order is accepted: it lists every live vertex once, and every step goes forward. Refusals 1, 19: the first place whose
+ * vertex is not live, is repeated, or has a step to itself or to an earlier entry; else the order's length, where it stops short. */
+vs_reply vs_desk_accept_order(const uint32_t *table, size_t table_words, const uint32_t *states, size_t states_words,
+                              const uint32_t *order, size_t count);
+
+/* The state of the vertex. Refusals 1, 3. */
+vs_reply vs_desk_state(const uint32_t *table, size_t table_words, const uint32_t *states, size_t states_words, vs_vertex vertex);
+
+/* The vertices in the state, ascending; of a state over 2 none. Refusals 1, 11. */
+vs_reply vs_desk_list(const uint32_t *table, size_t table_words, const uint32_t *states, size_t states_words, uint32_t state,
+                      uint32_t *out, size_t out_words);
+
+/* The vertices that a release would release now, ascending: reviewed, and every vertex with a step into them released. Refusals 1, 11. */
+vs_reply vs_desk_releasable(const uint32_t *table, size_t table_words, const uint32_t *states, size_t states_words, uint32_t *out,
+                            size_t out_words);
 
 #ifdef __cplusplus
 }

@@ -34,6 +34,17 @@ int main(void) {
     r = vs_withdraw_tray(table, VS_TABLE_WORDS, tray, 2);
     printf("the tray without it: answer %u\n", r.number);
 
+    static uint32_t states[VS_STATES_WORDS];
+    for (uint32_t v = 0; v < 3; v++)
+        vs_desk_review(table, VS_TABLE_WORDS, states, VS_STATES_WORDS, (vs_vertex){v});
+    r = vs_desk_release(table, VS_TABLE_WORDS, states, VS_STATES_WORDS, (vs_vertex){2});
+    printf("2 released too early: refused %u, vertex %u upstream\n", r.number, (unsigned)r.detail);
+    r = vs_desk_accept_order(table, VS_TABLE_WORDS, states, VS_STATES_WORDS, (const uint32_t[]){0, 2, 1}, 3);
+    printf("the order 0 2 1: refused %u, place %u\n", r.number, (unsigned)r.detail);
+    for (uint32_t v = 0; v < 3; v++)
+        r = vs_desk_release(table, VS_TABLE_WORDS, states, VS_STATES_WORDS, (vs_vertex){v});
+    printf("all released in the order 0 1 2: answer %u\n", r.number);
+
     vs_add_hyperedge(table, VS_TABLE_WORDS, (const uint32_t[]){2, 0}, 2, 1);
     r = vs_topological_sort(table, VS_TABLE_WORDS, sorted, 8);
     printf("with a step from 2 back to 0: refused %u\n", r.number);

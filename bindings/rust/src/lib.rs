@@ -1,10 +1,19 @@
 //! Vaultsorrel from Rust: slices in, the answer or the refusal out.
 //!
-//! A table is a slice of [`TABLE_WORDS`] words; an answer is written from the front of a slice of the caller's. Any slice
-//! may be handed in: a call answers or refuses, and a refusal changes no word.
+//! A table is a slice of [`TABLE_WORDS`] words; an answer is written from the front of a slice of the caller's. The states of
+//! the release desk are a slice of [`STATES_WORDS`] words. Any slice may be handed in: a call answers or refuses, and a refusal
+//! changes no word.
 
 /// How many words a table has.
 pub const TABLE_WORDS: usize = 7236;
+
+/// How many words the states of the release desk have.
+pub const STATES_WORDS: usize = 256;
+
+/// What a vertex is at the release desk: the detail of [`desk_state`].
+pub const WAITING: u32 = 0;
+pub const REVIEWED: u32 = 1;
+pub const RELEASED: u32 = 2;
 
 /// In place of a hyperedge, in the first entry of a path.
 pub const NO_HYPEREDGE: u32 = u32::MAX;
@@ -50,6 +59,7 @@ impl Withdrawal {
 /// Why a call was refused.
 #[derive(Clone, Copy, Debug, PartialEq, Eq)]
 pub enum Refusal {
+    /// The table is not well formed, or the states do not fit it.
     NotWellFormed,
     /// With the weight (add) or the hyperedge (update).
     NoMembers(u32),
@@ -72,6 +82,12 @@ pub enum Refusal {
     SideBySide(Hyperedge),
     /// With the position, from 0, of the first record that is of another kind or not live.
     BadRecord(u64),
+    /// The vertex to release is not reviewed.
+    NotReviewed(Vertex),
+    /// With the lowest vertex that has a step into the one to release and is not released.
+    UpstreamHeld(Vertex),
+    /// With the place, from 0, at which the order is at fault, or its length where it stops short.
+    BadOrder(u64),
     /// With the first member that equals the one after it.
     EqualNeighbours(Vertex),
 }
@@ -95,6 +111,9 @@ impl Refusal {
             Refusal::SameVertex(_) => 13,
             Refusal::SideBySide(_) => 14,
             Refusal::BadRecord(_) => 15,
+            Refusal::NotReviewed(_) => 17,
+            Refusal::UpstreamHeld(_) => 18,
+            Refusal::BadOrder(_) => 19,
             Refusal::EqualNeighbours(_) => 20,
         }
     }
@@ -104,8 +123,10 @@ impl Refusal {
         match self {
             Refusal::NoMembers(d) => d.into(),
             Refusal::VertexNotLive(v) | Refusal::SameVertex(v) | Refusal::EqualNeighbours(v) => v.0.into(),
+            Refusal::NotReviewed(v) | Refusal::UpstreamHeld(v) => v.0.into(),
             Refusal::HyperedgeNotLive(e) | Refusal::SameMembers(e) | Refusal::SideBySide(e) => e.0.into(),
-            Refusal::TooManyMembers(d) | Refusal::NoRoom(d) | Refusal::BadText(d) | Refusal::BadRecord(d) => d,
+            Refusal::TooManyMembers(d) | Refusal::NoRoom(d) | Refusal::BadText(d) => d,
+            Refusal::BadRecord(d) | Refusal::BadOrder(d) => d,
             _ => 0,
         }
     }
@@ -140,6 +161,9 @@ impl Reply {
             13 => Refusal::SameVertex(Vertex(word)),
             14 => Refusal::SideBySide(Hyperedge(word)),
             15 => Refusal::BadRecord(self.detail),
+            17 => Refusal::NotReviewed(Vertex(word)),
+            18 => Refusal::UpstreamHeld(Vertex(word)),
+            19 => Refusal::BadOrder(self.detail),
             20 => Refusal::EqualNeighbours(Vertex(word)),
             other => unreachable!("answer number {other}"),
         })
@@ -276,6 +300,116 @@ mod c {
         ) -> Reply;
         pub fn vs_write_frames(table: *const u32, table_words: usize, text: *mut u8, text_bytes: usize) -> Reply;
         pub fn vs_read_frames(table: *mut u32, table_words: usize, text: *const u8, text_bytes: usize) -> Reply;
+        pub fn vs_desk_add_vertex(
+            table: *mut u32,
+            table_words: usize,
+            states: *mut u32,
+            states_words: usize,
+            weight: u32,
+        ) -> Reply;
+        pub fn vs_desk_add_hyperedge(
+            table: *mut u32,
+            table_words: usize,
+            states: *mut u32,
+            states_words: usize,
+            members: *const u32,
+            count: usize,
+            weight: u32,
+        ) -> Reply;
+        pub fn vs_desk_update_hyperedge_vertices(
+            table: *mut u32,
+            table_words: usize,
+            states: *mut u32,
+            states_words: usize,
+            hyperedge: Hyperedge,
+            members: *const u32,
+            count: usize,
+        ) -> Reply;
+        pub fn vs_desk_remove_vertex(
+            table: *mut u32,
+            table_words: usize,
+            states: *mut u32,
+            states_words: usize,
+            vertex: Vertex,
+        ) -> Reply;
+        pub fn vs_desk_remove_hyperedge(
+            table: *mut u32,
+            table_words: usize,
+            states: *mut u32,
+            states_words: usize,
+            hyperedge: Hyperedge,
+        ) -> Reply;
+        pub fn vs_desk_merge_vertices(
+            table: *mut u32,
+            table_words: usize,
+            states: *mut u32,
+            states_words: usize,
+            v: Vertex,
+            w: Vertex,
+        ) -> Reply;
+        pub fn vs_desk_withdraw_tray(
+            table: *mut u32,
+            table_words: usize,
+            states: *mut u32,
+            states_words: usize,
+            records: *const Withdrawal,
+            count: usize,
+        ) -> Reply;
+        pub fn vs_desk_clear(table: *mut u32, table_words: usize, states: *mut u32, states_words: usize) -> Reply;
+        pub fn vs_desk_read_frames(
+            table: *mut u32,
+            table_words: usize,
+            states: *mut u32,
+            states_words: usize,
+            text: *const u8,
+            text_bytes: usize,
+        ) -> Reply;
+        pub fn vs_desk_review(
+            table: *const u32,
+            table_words: usize,
+            states: *mut u32,
+            states_words: usize,
+            vertex: Vertex,
+        ) -> Reply;
+        pub fn vs_desk_release(
+            table: *const u32,
+            table_words: usize,
+            states: *mut u32,
+            states_words: usize,
+            vertex: Vertex,
+        ) -> Reply;
+        pub fn vs_desk_accept_order(
+            table: *const u32,
+            table_words: usize,
+            states: *const u32,
+            states_words: usize,
+            order: *const u32,
+            count: usize,
+        ) -> Reply;
+        pub fn vs_desk_state(
+            table: *const u32,
+            table_words: usize,
+            states: *const u32,
+            states_words: usize,
+            vertex: Vertex,
+        ) -> Reply;
+        pub fn vs_desk_list(
+            table: *const u32,
+            table_words: usize,
+            states: *const u32,
+            states_words: usize,
+            state: u32,
+            out: *mut u32,
+            out_words: usize,
+        ) -> Reply;
+        pub fn vs_desk_releasable(
+            table: *const u32,
+            table_words: usize,
+            states: *const u32,
+            states_words: usize,
+            out: *mut u32,
+            out_words: usize,
+        ) -> Reply;
     }
 }
 
@@ -548,4 +682,167 @@ pub fn write_frames(table: &[u32], text: &mut [u8]) -> Answer {
 pub fn read_frames(table: &mut [u32], text: &[u8]) -> Answer {
     // The pointers and counts are those of slices that live and do not overlap for the time of the call.
     unsafe { c::vs_read_frames(table.as_mut_ptr(), table.len(), text.as_ptr(), text.len()) }.answer()
+}
+
+/// A new vertex; its number. It waits.
+pub fn desk_add_vertex(table: &mut [u32], states: &mut [u32], weight: u32) -> Answer {
+    // The pointers and counts are those of slices that live and do not overlap for the time of the call.
+    unsafe { c::vs_desk_add_vertex(table.as_mut_ptr(), table.len(), states.as_mut_ptr(), states.len(), weight) }.answer()
+}
+
+/// [`add_hyperedge`] through the desk: every vertex keeps its state.
+pub fn desk_add_hyperedge(table: &mut [u32], states: &mut [u32], members: &[u32], weight: u32) -> Answer {
+    // The pointers and counts are those of slices that live and do not overlap for the time of the call.
+    unsafe {
+        c::vs_desk_add_hyperedge(
+            table.as_mut_ptr(),
+            table.len(),
+            states.as_mut_ptr(),
+            states.len(),
+            members.as_ptr(),
+            members.len(),
+            weight,
+        )
+    }
+    .answer()
+}
+
+/// [`update_hyperedge_vertices`] through the desk: every vertex keeps its state.
+pub fn desk_update_hyperedge_vertices(table: &mut [u32], states: &mut [u32], hyperedge: Hyperedge, members: &[u32]) -> Answer {
+    // The pointers and counts are those of slices that live and do not overlap for the time of the call.
+    unsafe {
+        c::vs_desk_update_hyperedge_vertices(
+            table.as_mut_ptr(),
+            table.len(),
+            states.as_mut_ptr(),
+            states.len(),
+            hyperedge,
+            members.as_ptr(),
+            members.len(),
+        )
+    }
+    .answer()
+}
+
+/// [`remove_vertex`] through the desk: it loses its state, and every other vertex keeps its own.
+pub fn desk_remove_vertex(table: &mut [u32], states: &mut [u32], vertex: Vertex) -> Answer {
+    // The pointers and counts are those of slices that live and do not overlap for the time of the call.
+    unsafe { c::vs_desk_remove_vertex(table.as_mut_ptr(), table.len(), states.as_mut_ptr(), states.len(), vertex) }.answer()
+}
+
+/// [`remove_hyperedge`] through the desk: every vertex keeps its state.
+pub fn desk_remove_hyperedge(table: &mut [u32], states: &mut [u32], hyperedge: Hyperedge) -> Answer {
+    // The pointers and counts are those of slices that live and do not overlap for the time of the call.
+    unsafe { c::vs_desk_remove_hyperedge(table.as_mut_ptr(), table.len(), states.as_mut_ptr(), states.len(), hyperedge) }.answer()
+}
+
+/// [`merge_vertices`] through the desk: `w` loses its state, and `v` keeps its own, as every other vertex.
+pub fn desk_merge_vertices(table: &mut [u32], states: &mut [u32], v: Vertex, w: Vertex) -> Answer {
+    // The pointers and counts are those of slices that live and do not overlap for the time of the call.
+    unsafe { c::vs_desk_merge_vertices(table.as_mut_ptr(), table.len(), states.as_mut_ptr(), states.len(), v, w) }.answer()
+}
+
+/// [`withdraw_tray`] through the desk: the vertices withdrawn lose their state, and the others keep their own.
+pub fn desk_withdraw_tray(table: &mut [u32], states: &mut [u32], records: &[Withdrawal]) -> Answer {
+    // The pointers and counts are those of slices that live and do not overlap for the time of the call.
+    unsafe {
+        c::vs_desk_withdraw_tray(
+            table.as_mut_ptr(),
+            table.len(),
+            states.as_mut_ptr(),
+            states.len(),
+            records.as_ptr(),
+            records.len(),
+        )
+    }
+    .answer()
+}
+
+/// Every word of table and states becomes 0; only lengths are judged.
+pub fn desk_clear(table: &mut [u32], states: &mut [u32]) -> Answer {
+    // The pointers and counts are those of slices that live and do not overlap for the time of the call.
+    unsafe { c::vs_desk_clear(table.as_mut_ptr(), table.len(), states.as_mut_ptr(), states.len()) }.answer()
+}
+
+/// The table that the text was written from, and every state 0; on a refusal both stay as they were.
+pub fn desk_read_frames(table: &mut [u32], states: &mut [u32], text: &[u8]) -> Answer {
+    // The pointers and counts are those of slices that live and do not overlap for the time of the call.
+    unsafe {
+        c::vs_desk_read_frames(
+            table.as_mut_ptr(),
+            table.len(),
+            states.as_mut_ptr(),
+            states.len(),
+            text.as_ptr(),
+            text.len(),
+        )
+    }
+    .answer()
+}
+
+/// A waiting vertex becomes reviewed; a reviewed or released one stays what it is.
+pub fn desk_review(table: &[u32], states: &mut [u32], vertex: Vertex) -> Answer {
+    // The pointers and counts are those of slices that live and do not overlap for the time of the call.
+    unsafe { c::vs_desk_review(table.as_ptr(), table.len(), states.as_mut_ptr(), states.len(), vertex) }.answer()
+}
+
+/// The vertex becomes released, or is already. Refused where it is not reviewed, or a vertex with a step into it is not released.
+pub fn desk_release(table: &[u32], states: &mut [u32], vertex: Vertex) -> Answer {
+    // The pointers and counts are those of slices that live and do not overlap for the time of the call.
+    unsafe { c::vs_desk_release(table.as_ptr(), table.len(), states.as_mut_ptr(), states.len(), vertex) }.answer()
+}
+
+/// Whether the order lists every live vertex once and every step goes forward; the first place at fault where not.
+pub fn desk_accept_order(table: &[u32], states: &[u32], order: &[u32]) -> Answer {
+    // The pointers and counts are those of slices that live and do not overlap for the time of the call.
+    unsafe {
+        c::vs_desk_accept_order(
+            table.as_ptr(),
+            table.len(),
+            states.as_ptr(),
+            states.len(),
+            order.as_ptr(),
+            order.len(),
+        )
+    }
+    .answer()
+}
+
+/// [`WAITING`], [`REVIEWED`] or [`RELEASED`].
+pub fn desk_state(table: &[u32], states: &[u32], vertex: Vertex) -> Answer {
+    // The pointers and counts are those of slices that live and do not overlap for the time of the call.
+    unsafe { c::vs_desk_state(table.as_ptr(), table.len(), states.as_ptr(), states.len(), vertex) }.answer()
+}
+
+/// The vertices in the state, ascending.
+pub fn desk_list(table: &[u32], states: &[u32], state: u32, out: &mut [u32]) -> Answer {
+    // The pointers and counts are those of slices that live and do not overlap for the time of the call.
+    unsafe {
+        c::vs_desk_list(
+            table.as_ptr(),
+            table.len(),
+            states.as_ptr(),
+            states.len(),
+            state,
+            out.as_mut_ptr(),
+            out.len(),
+        )
+    }
+    .answer()
+}
+
+/// The vertices that a release would release now, ascending.
+pub fn desk_releasable(table: &[u32], states: &[u32], out: &mut [u32]) -> Answer {
+    // The pointers and counts are those of slices that live and do not overlap for the time of the call.
+    unsafe {
+        c::vs_desk_releasable(
+            table.as_ptr(),
+            table.len(),
+            states.as_ptr(),
+            states.len(),
+            out.as_mut_ptr(),
+            out.len(),
+        )
+    }
+    .answer()
 }

@@ -136,3 +136,108 @@ fn frame_text_reads_back() {
     assert_eq!(read_frames(&mut other, &text[..bytes]), Ok(0));
     assert_eq!(other, table);
 }
+
+/// A table of four vertices, made through the desk: 0 steps to 1 and to 2, and both to 3.
+fn desk() -> (Vec<u32>, Vec<u32>) {
+    let (mut table, mut states) = (vec![0; TABLE_WORDS], vec![0; STATES_WORDS]);
+    for number in 0..4 {
+        assert_eq!(desk_add_vertex(&mut table, &mut states, 10 + number), Ok(number.into()));
+    }
+    assert_eq!(desk_add_hyperedge(&mut table, &mut states, &[0, 1, 3], 5), Ok(0));
+    assert_eq!(desk_add_hyperedge(&mut table, &mut states, &[0, 2, 3], 5), Ok(1));
+    (table, states)
+}
+
+#[test]
+fn a_tube_waits_until_everything_upstream_is_released() {
+    let (table, mut states) = desk();
+    assert_eq!(states, [0; STATES_WORDS]);
+    assert_eq!(desk_release(&table, &mut states, Vertex(0)), Err(Refusal::NotReviewed(Vertex(0))));
+    for v in [3, 0, 2, 1, 3] {
+        assert_eq!(desk_review(&table, &mut states, Vertex(v)), Ok(0));
+    }
+    assert_eq!(desk_release(&table, &mut states, Vertex(3)), Err(Refusal::UpstreamHeld(Vertex(1))));
+    assert_eq!(desk_release(&table, &mut states, Vertex(4)), Err(Refusal::VertexNotLive(Vertex(4))));
+    assert_eq!(states[..5], [1, 1, 1, 1, 0]);
+
+    assert_eq!(desk_release(&table, &mut states, Vertex(0)), Ok(0));
+    let mut out = [7; 4];
+    assert_eq!(desk_releasable(&table, &states, &mut out), Ok(2));
+    assert_eq!(out, [1, 2, 7, 7]);
+    assert_eq!(desk_list(&table, &states, REVIEWED, &mut out[..2]), Err(Refusal::NoRoom(3)));
+    assert_eq!(desk_list(&table, &states, REVIEWED, &mut out), Ok(3));
+    assert_eq!(out, [1, 2, 3, 7]);
+    assert_eq!(desk_list(&table, &states, 3, &mut out), Ok(0));
+
+    let at = |place| Err(Refusal::BadOrder(place));
+    assert_eq!(desk_accept_order(&table, &states, &[0, 1, 3, 2]), at(3));
+    assert_eq!(desk_accept_order(&table, &states, &[0, 1, 0, 9]), at(2));
+    assert_eq!(desk_accept_order(&table, &states, &[9, 9]), at(0));
+    assert_eq!(desk_accept_order(&table, &states, &[0, 1, 2]), at(3));
+    assert_eq!(desk_accept_order(&table, &states, &[0, 2, 1, 3]), Ok(0));
+    for v in [0, 2, 1, 3] {
+        assert_eq!(desk_release(&table, &mut states, Vertex(v)), Ok(0));
+        assert_eq!(desk_review(&table, &mut states, Vertex(v)), Ok(0));
+        assert_eq!(desk_state(&table, &states, Vertex(v)), Ok(RELEASED.into()));
+    }
+}
+
+#[test]
+fn states_follow_their_vertices() {
+    let (mut table, mut states) = desk();
+    let sign = |table: &[u32], states: &mut [u32]| {
+        for v in [0, 1, 3] {
+            desk_review(table, states, Vertex(v)).unwrap();
+        }
+        desk_release(table, states, Vertex(0)).unwrap();
+    };
+    sign(&table, &mut states);
+    assert_eq!(states[..5], [2, 1, 0, 1, 0]);
+    assert_eq!(desk_remove_vertex(&mut table, &mut states, Vertex(0)), Ok(0));
+    assert_eq!(states[..5], [1, 0, 1, 0, 0]);
+    assert_eq!(desk_merge_vertices(&mut table, &mut states, Vertex(2), Vertex(1)), Ok(0));
+    assert_eq!(states[..5], [0, 1, 0, 0, 0]);
+    assert_eq!(desk_update_hyperedge_vertices(&mut table, &mut states, Hyperedge(0), &[3]), Ok(0));
+    assert_eq!(desk_remove_hyperedge(&mut table, &mut states, Hyperedge(1)), Ok(0));
+    assert_eq!(desk_state(&table, &states, Vertex(3)), Ok(REVIEWED.into()));
+    assert_eq!(desk_state(&table, &states, Vertex(1)), Err(Refusal::VertexNotLive(Vertex(1))));
+
+    let before = (table.clone(), states.clone());
+    let tray = [Withdrawal::vertex(Vertex(2)), Withdrawal::hyperedge(Hyperedge(1))];
+    assert_eq!(desk_withdraw_tray(&mut table, &mut states, &tray), Err(Refusal::BadRecord(1)));
+    assert_eq!((&table, &states), (&before.0, &before.1));
+    assert_eq!(desk_withdraw_tray(&mut table, &mut states, &tray[..1]), Ok(0));
+    assert_eq!(states[..2], [1, 0]);
+
+    let (mut table, mut states) = desk();
+    sign(&table, &mut states);
+    let mut text = [0; 400];
+    let bytes = write_frames(&table, &mut text).unwrap() as usize;
+    let before = (table.clone(), states.clone());
+    assert_eq!(desk_read_frames(&mut table, &mut states, &text[1..bytes]), Err(Refusal::BadText(1)));
+    assert_eq!((&table, &states), (&before.0, &before.1));
+    assert_eq!(desk_read_frames(&mut table, &mut states, &text[..bytes]), Ok(0));
+    assert_eq!((&table, &states), (&before.0, &vec![0; STATES_WORDS]));
+}
+
+#[test]
+fn states_that_do_not_fit_are_refused() {
+    let (mut table, states) = desk();
+    let before = table.clone();
+    let refused = Err(Refusal::NotWellFormed);
+    for (place, word) in [(0, 3), (4, 1), (255, 2)] {
+        let mut bad = states.clone();
+        bad[place] = word;
+        let kept = bad.clone();
+        assert_eq!(desk_add_vertex(&mut table, &mut bad, 7), refused);
+        assert_eq!(desk_review(&table, &mut bad, Vertex(9)), refused);
+        assert_eq!(desk_accept_order(&table, &bad, &[]), refused);
+        assert_eq!((&table, &bad), (&before, &kept));
+    }
+    assert_eq!(desk_state(&table, &states[1..], Vertex(0)), refused);
+    assert_eq!(desk_clear(&mut table, &mut vec![0; STATES_WORDS + 1]), refused);
+    assert_eq!(table, before);
+    let mut bad = vec![9; STATES_WORDS];
+    assert_eq!(desk_clear(&mut table, &mut bad), Ok(0));
+    assert_eq!((is_empty(&table), bad), (Ok(1), vec![0; STATES_WORDS]));
+}
