@@ -8,3 +8,4 @@ pub mod Walk
 pub mod Frames
 pub mod Reading
 pub mod Replay
+pub mod Desk
