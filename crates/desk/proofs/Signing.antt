@@ -16,7 +16,6 @@ use Rattle.layout.specs.declared.Answer.{Answer}
 use Rattle.layout.specs.declared.Answer.the-variants.{Done, NotWellFormed}
 use Rattle.layout.specs.Content.{Table, liveVertices, isLive, position, place}
 use Rattle.layout.specs.Layout.{limit, vertexLimit}
-use Rattle.layout.specs.WellFormed.{wellFormed}
 use Rattle.layout.specs.Answers.{number, Result, result, onLive, onLiveVertex, vertexMissing}
 use Rattle.layout.proofs.Position.{position-found, missing-dead}
 use Rattle.layout.proofs.Read.{live-length, formed-of}

@@ -1,5 +1,5 @@
 -- Calls of the desk, one after the other. Assumes nothing.
-use mathlib.Core.List.{List, [], _∷_, map}
+use mathlib.Core.List.{List, [], _∷_}
 use Prim.Native.Nat.{ℕ}
 use Rattle.layout.specs.Answers.{Result}
 use Rattle.calls.specs.Calls.{Call, anEdit, clear, readText}

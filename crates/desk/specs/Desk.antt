@@ -10,7 +10,7 @@ use Rattle.layout.specs.declared.Answer.the-variants.{NotWellFormed}
 use Rattle.layout.specs.Content.{Table, liveVertices}
 use Rattle.layout.specs.Layout.{limit, vertexLimit, read}
 use Rattle.layout.specs.WellFormed.{wellFormed}
-use Rattle.layout.specs.Answers.{number, detail, Result, result}
+use Rattle.layout.specs.Answers.{number, detail, Result}
 use Rattle.edits.specs.Results.{clearResult}
 use Rattle.frames.specs.Reading.{readResult}
 use Rattle.calls.specs.Calls.{Edit, edit}

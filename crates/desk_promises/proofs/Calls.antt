@@ -7,13 +7,13 @@ use Rattle.lists.specs.Tests.{_and_}
 use Rattle.lists.specs.Lists.{all}
 use Rattle.layout.specs.declared.Answer.the-variants.{Done}
 use Rattle.layout.specs.Content.{liveVertices}
-use Rattle.layout.specs.Answers.{Result, result, vertexMissing, onLive}
+use Rattle.layout.specs.Answers.{Result, result, vertexMissing}
 use Rattle.removals.specs.Removals.{vertex, hyperedge, removal}
 use Rattle.trays.specs.Trays.{tray}
 use Rattle.calls.specs.Calls.{Edit, addVertex, addHyperedge, update, merge, remove, withdraw, edit}
-use Rattle.desk.specs.States.{released, stateOf, inState, withState}
+use Rattle.desk.specs.States.{released, inState, withState}
 use Rattle.desk.specs.Desk.{Desk, content, deskEdit, deskClear, deskRead}
-use Rattle.desk.specs.Releases.{onDesk, onceReviewed, reviewResult, releasing, releaseResult, stateResult, verticesIn, listResult, releasable, releasableResult}
+use Rattle.desk.specs.Releases.{onDesk, reviewResult, releasing, releaseResult, stateResult, verticesIn, listResult, releasable, releasableResult}
 use Rattle.desk.specs.Orders.{acceptResult}
 use Rattle.promises.specs.Refusals.{Ground, Judged, unless}
 use Rattle.promises.proofs.Refusals.{none-refused, live-judged, listed-judged, answered, all-apply}

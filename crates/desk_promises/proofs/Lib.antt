@@ -1,4 +1,4 @@
-mod Refusals
+pub mod Refusals
 pub mod Calls
 pub mod Agreement
 pub mod Interface

@@ -12,8 +12,7 @@ use Rattle.lists.specs.Lists.{all, tab}
 use Rattle.lists.proofs.Cases.{on, and-left, and-right}
 use Rattle.layout.specs.declared.Found.{Found}
 use Rattle.layout.specs.declared.Found.the-variants.{At, Nothing}
-use Rattle.layout.specs.declared.Answer.{Answer}
-use Rattle.layout.specs.declared.Answer.the-variants.{Done, BadOrder}
+use Rattle.layout.specs.declared.Answer.the-variants.{BadOrder}
 use Rattle.layout.specs.Content.{Table, liveVertices}
 use Rattle.layout.specs.Layout.{vertexLimit}
 use Rattle.layout.specs.Answers.{number, Result, result}

@@ -16,7 +16,7 @@ use Rattle.desk.specs.States.{reviewed, released, inState}
 use Rattle.desk.specs.Desk.{Desk, Outcome, outcome, content, deskFits}
 use Rattle.desk.specs.Releases.{notReviewed, holds, upstreamHeld}
 use Rattle.desk.specs.Orders.{atFault, stopsShort}
-use Rattle.promises.specs.Refusals.{Ground, first, unsized, deadVertices, noRoom, badText, unless, addVertexGrounds, addHyperedgeGrounds, updateGrounds, vertexGrounds, mergeGrounds, hyperedgeGrounds, trayGrounds, readGrounds}
+use Rattle.promises.specs.Refusals.{Ground, first, unsized, deadVertices, noRoom, unless, addVertexGrounds, addHyperedgeGrounds, updateGrounds, vertexGrounds, mergeGrounds, hyperedgeGrounds, trayGrounds, readGrounds}
 
 -- each refusal is given then and only then, by the first that applies, and changes neither the table nor the states
 pub record DeskJudged (gs : List Ground) (d : Desk) (o : Outcome) : Type 0 where

@@ -1,6 +1,6 @@
 -- The desk's states, and the test of the desk: any two results that keep the promise on the same input agree, or agree in what is given. Assumes
 -- nothing.
-use mathlib.Core.Path.{_≡_, refl, sym, _∙_}
+use mathlib.Core.Path.{refl, sym, _∙_}
 use mathlib.Core.List.{[]}
 use lib.ListN.{take}
 use denote.Ref.{now}
