@@ -1,14 +1,11 @@
-// Edits through the release desk that take no vertex out: the answer and the table are the lower edit's.
+// Edits through the release desk that leave the vertices' records where they are: so do the states. Answer and table are the lower edit's.
 ghost use mathlib.Core.Path.{_≡_};
 ghost use Rattle.removals.specs.Removals.{hyperedge};
 ghost use Rattle.calls.specs.Calls.{addVertex, addHyperedge, update, remove};
-ghost use Rattle.desk.specs.Desk.{deskOf, outcome, deskEdit, deskClear, deskRead};
+ghost use Rattle.desk.specs.Desk.{deskOf, outcome, deskEdit};
 use desk_states::is_open;
-use desk_states::renew;
 use layout::Answer;
 use layout::HyperedgeIndex;
-
-// ---- the records of the vertices stay where they are, and so do their states
 
 // A new vertex is in the first unused record, which has 0: it waits.
 pub fn desk_add_vertex(t: &mut [u32], s: &mut [u32], weight: u32) -> Answer
@@ -50,28 +47,4 @@ pub fn desk_remove_hyperedge(t: &mut [u32], s: &mut [u32], e: HyperedgeIndex) ->
         return Answer::NotWellFormed;
     }
     remove_hyperedge::remove_hyperedge(t, e)
-}
-
-// ---- the table is written anew, and every record waits
-
-pub fn desk_clear(t: &mut [u32], s: &mut [u32]) -> Answer
-    ensures { λ r. ⌜ outcome r (deskOf (now (t .exit)) (now (s .exit))) ≡ deskClear (deskOf (now (t .entry)) (now (s .entry))) ⌝ }
-{
-    if s.len() != layout::VERTEX_LIMIT {
-        return Answer::NotWellFormed;
-    }
-    let cleared = hypergraph::clear(t);
-    renew(s, cleared);
-    cleared
-}
-
-pub fn desk_read_frames(t: &mut [u32], s: &mut [u32], text: &[u8]) -> Answer
-    ensures { λ r. ⌜ outcome r (deskOf (now (t .exit)) (now (s .exit))) ≡ deskRead (now (text .entry)) (deskOf (now (t .entry)) (now (s .entry))) ⌝ }
-{
-    if s.len() != layout::VERTEX_LIMIT {
-        return Answer::NotWellFormed;
-    }
-    let read = read_frames::read_frames(t, text);
-    renew(s, read);
-    read
 }

@@ -29,12 +29,12 @@ use Rattle.desk_edits.proofs.desk_remove_hyperedge.Kinds as desk-remove-hypered
 use Rattle.desk_edits.proofs.desk_remove_hyperedge.Reads as desk-remove-hyperedge-reads
 use Rattle.desk_removals.proofs.desk_merge_vertices.Kinds as desk-merge-vertices
 use Rattle.desk_removals.proofs.desk_merge_vertices.Reads as desk-merge-vertices-reads
-use Rattle.desk_edits.proofs.desk_clear.Kinds as desk-clear
-use Rattle.desk_edits.proofs.desk_clear.Reads as desk-clear-reads
-use Rattle.desk_edits.proofs.desk_read_frames.Kinds as desk-read-frames
-use Rattle.desk_edits.proofs.desk_read_frames.Reads as desk-read-frames-reads
-use Rattle.desk_release.proofs.desk_review.Kinds as desk-review
-use Rattle.desk_release.proofs.desk_review.Reads as desk-review-reads
+use Rattle.desk_anew.proofs.desk_clear.Kinds as desk-clear
+use Rattle.desk_anew.proofs.desk_clear.Reads as desk-clear-reads
+use Rattle.desk_anew.proofs.desk_read_frames.Kinds as desk-read-frames
+use Rattle.desk_anew.proofs.desk_read_frames.Reads as desk-read-frames-reads
+use Rattle.desk_review.proofs.desk_review.Kinds as desk-review
+use Rattle.desk_review.proofs.desk_review.Reads as desk-review-reads
 use Rattle.desk_release.proofs.desk_release.Kinds as desk-release
 use Rattle.desk_release.proofs.desk_release.Reads as desk-release-reads
 use Rattle.desk_order.proofs.desk_accept_order.Kinds as desk-accept-order
@@ -43,8 +43,8 @@ use Rattle.desk_looks.proofs.desk_state.Kinds as desk-state
 use Rattle.desk_looks.proofs.desk_state.Reads as desk-state-reads
 use Rattle.desk_looks.proofs.desk_list.Kinds as desk-list
 use Rattle.desk_looks.proofs.desk_list.Reads as desk-list-reads
-use Rattle.desk_looks.proofs.desk_releasable.Kinds as desk-releasable
-use Rattle.desk_looks.proofs.desk_releasable.Reads as desk-releasable-reads
+use Rattle.desk_releasable.proofs.desk_releasable.Kinds as desk-releasable
+use Rattle.desk_releasable.proofs.desk_releasable.Reads as desk-releasable-reads
 
 -- number and detail of an outcome, with nothing lent
 told : Outcome → Result

@@ -1,2 +1,1 @@
-pub mod Reviewed
-pub mod Released
+mod Released

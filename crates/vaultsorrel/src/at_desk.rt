@@ -90,7 +90,7 @@ pub extern "C" fn vs_desk_withdraw_tray(
 pub extern "C" fn vs_desk_clear(t: &mut [u32], s: &mut [u32]) -> Reply
     ensures { λ r. ⌜ repliedAt r (deskOf (now (t .exit)) (now (s .exit))) ≡ deskClear (deskOf (now (t .entry)) (now (s .entry))) ⌝ }
 {
-    layout::reply_of(desk_edits::desk_clear(t, s))
+    layout::reply_of(desk_anew::desk_clear(t, s))
 }
 
 // Reads frame text into the table; where it is read, every state is zeroed.
@@ -98,7 +98,7 @@ pub extern "C" fn vs_desk_clear(t: &mut [u32], s: &mut [u32]) -> Reply
 pub extern "C" fn vs_desk_read_frames(t: &mut [u32], s: &mut [u32], text: &[u8]) -> Reply
     ensures { λ r. ⌜ repliedAt r (deskOf (now (t .exit)) (now (s .exit))) ≡ deskRead (now (text .entry)) (deskOf (now (t .entry)) (now (s .entry))) ⌝ }
 {
-    layout::reply_of(desk_edits::desk_read_frames(t, s, text))
+    layout::reply_of(desk_anew::desk_read_frames(t, s, text))
 }
 
 // ---- Review and release
@@ -108,7 +108,7 @@ pub extern "C" fn vs_desk_read_frames(t: &mut [u32], s: &mut [u32], text: &[u8])
 pub extern "C" fn vs_desk_review(t: &[u32], s: &mut [u32], v: VertexIndex) -> Reply
     ensures { λ r. ⌜ replied r (now (s .exit)) ≡ onDesk (deskOf (now (t .entry)) (now (s .entry))) (now (s .entry)) (reviewResult (v .0) (now (s .entry))) ⌝ }
 {
-    layout::reply_of(desk_release::desk_review(t, s, v))
+    layout::reply_of(desk_review::desk_review(t, s, v))
 }
 
 // Releases the vertex where it is reviewed and every vertex with a step into it is released.
@@ -150,5 +150,5 @@ pub extern "C" fn vs_desk_list(t: &[u32], s: &[u32], state: u32, out: &mut [u32]
 pub extern "C" fn vs_desk_releasable(t: &[u32], s: &[u32], out: &mut [u32]) -> Reply
     ensures { λ r. ⌜ replied r (now (out .exit)) ≡ onDesk (deskOf (now (t .entry)) (now (s .entry))) (now (out .entry)) (releasableResult (now (s .entry)) (now (out .entry))) ⌝ }
 {
-    layout::reply_of(desk_looks::desk_releasable(t, s, out))
+    layout::reply_of(desk_releasable::desk_releasable(t, s, out))
 }
