@@ -68,8 +68,7 @@ fn mark_record(t: &[u32], j: usize, rel: Relation, v: u32, marks: &mut [bool; 25
     }
 }
 
-// Marks the vertices that some list relates to v.
-pub fn related_marks(t: &[u32], rel: Relation, v: u32) -> [bool; 256]
+fn related_marks(t: &[u32], rel: Relation, v: u32) -> [bool; 256]
     requires { ⌜ Formed limit (now t) ⌝ }
     ensures { λ r. ⌜ MarkedBy (liveVertices (read limit (now (t .entry)))) (isRelated rel (read limit (now (t .entry))) v) noMarks r ⌝ }
 {

@@ -23,8 +23,6 @@ use desk_fits::desk_fits;
 use layout::Answer;
 use layout::Found;
 use layout::VertexIndex;
-use lookups::Direction;
-use lookups::Relation;
 
 // Whether a record holds what it has a step into: it is marked, and not released.
 fn is_held(mark: bool, x: u32) -> bool
@@ -58,7 +56,7 @@ fn release_reviewed(t: &[u32], s: &mut [u32], v: VertexIndex, i: usize) -> Answe
     requires { ⌜ (length (now s) ≡ vertexLimit) × (i < vertexLimit) × (position (v .0) (liveVertices (read limit (now t))) ≡ At i) ⌝ }
     ensures { λ r. ⌜ result r (now (s .exit)) ≡ releaseReviewedResult (v .0) (now (s .entry)) (read limit (now (t .entry))) ⌝ }
 {
-    let marks = adjacent::related_marks(t, Relation::Along(Direction::To), v.0);
+    let marks = desk_upstream::upstream_marks(t, v.0);
     let n = layout::vertex_count(t);
     let f = first_held(s, &marks, n);
     match f {

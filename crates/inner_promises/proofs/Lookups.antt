@@ -26,8 +26,8 @@ use Rattle.marks.proofs.write_marked.Kinds as write-marked
 use Rattle.marks.proofs.write_marked.Reads as write-marked-reads
 use Rattle.marks.proofs.list_marked.Kinds as list-marked
 use Rattle.marks.proofs.list_marked.Reads as list-marked-reads
-use Rattle.adjacent.proofs.related_marks.Kinds as related-marks
-use Rattle.adjacent.proofs.related_marks.Reads as related-marks-reads
+use Rattle.desk_upstream.proofs.upstream_marks.Kinds as upstream-marks
+use Rattle.desk_upstream.proofs.upstream_marks.Reads as upstream-marks-reads
 use Rattle.lookups.proofs.ends_at.Kinds as ends-at
 use Rattle.lookups.proofs.ends_at.Reads as ends-at-reads
 use Rattle.lookups.proofs.holds.Kinds as holds
@@ -58,9 +58,9 @@ pub list-marked-agrees : Agrees 3 list-marked.ps list-marked.r list-marked-reads
 list-marked-agrees κs args a b x y p q = agree _ p q
 
 -- the marks of the live vertices
-pub related-marks-agrees : AgreesIn 1 related-marks.ps related-marks.r related-marks-reads.Pre related-marks-reads.Post
+pub upstream-marks-agrees : AgreesIn 1 upstream-marks.ps upstream-marks.r upstream-marks-reads.Pre upstream-marks-reads.Post
     (λ κs args a x. firstMarks (length (liveVertices (read limit (now (args .0))))) a)
-related-marks-agrees κs args a b x y pre p q = tab-ext _ _ _ (λ k l. p .each k l ∙ sym (q .each k l))
+upstream-marks-agrees κs args a b x y pre p q = tab-ext _ _ _ (λ k l. p .each k l ∙ sym (q .each k l))
 
 -- ---- lists of members
 

@@ -4,8 +4,8 @@ use borrow.Author.Needs.{needs}
 use Rattle.desk_release.proofs.release_reviewed.Statement.{statement}
 use Rattle.desk_release.proofs.release_reviewed.Tie as tie
 
-related-marks-requires : tie.Need-related-marks-requires
-related-marks-requires c κs = search needs
+upstream-marks-requires : tie.Need-upstream-marks-requires
+upstream-marks-requires c κs = search needs
 
 vertex-count-requires : tie.Need-vertex-count-requires
 vertex-count-requires c κs = search needs
@@ -44,7 +44,7 @@ pub release-reviewed-spec : {M : Type 1} → statement M
 release-reviewed-spec =
     tie.close
     (tie.spec
-    related-marks-requires
+    upstream-marks-requires
     vertex-count-requires
     first-held-requires
     enum-known-f
