@@ -223,7 +223,8 @@ vs_reply vs_read_frames(uint32_t *table, size_t table_words, const uint8_t *text
  * The states are a second lent slice, of 256 words, one for each vertex record: 0 waiting, 1 reviewed, 2 released. They must not overlap
  * the table. They fit a table where there are 256 of them, none is over 2, and each record that is not in use has 0; 256 words of 0 fit every
  * table. Every desk call but vs_desk_clear and vs_desk_read_frames gives 1 for states that do not fit. A refused call changes neither table
- * nor states. */
+ * nor states. A table that has states is edited by the desk's calls alone: an edit of the table by itself moves no state, and after a removal
+ * the states would be those of other vertices. */
 
 /* The edits, through the desk: answer, refusals and table are those of the edit, with 1 also for states that do not fit. Each vertex
  * keeps its state, whichever record it stands in after the edit; a new one waits, and one that is removed, alone, in a tray or as the w
