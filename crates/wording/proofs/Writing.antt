@@ -96,10 +96,13 @@ write-at (x ∷ xs) bytes at h =
     ∙ ap (λ (b : List ℕ). page (overAt (at + 1) xs b) (at + 1 + length xs)) (set-over-at bytes at x l)
     ∙ ap₂ page (over-at-join at (x ∷ []) bytes f xs) e
 
--- all of a text that fits
-pub write-fits : (xs bytes : List ℕ) → length xs ≤ length bytes → write xs (page bytes 0) ≡ page (xs ++ drop (length xs) bytes) (length xs)
+-- all of a text that fits, on a page from its front on
+pub write-within : (xs bytes : List ℕ) → length xs ≤ length bytes → write xs (page bytes 0) ≡ page (xs ++ drop (length xs) bytes) (length xs)
 unfolding overAt over
-write-fits xs bytes h = write-at xs bytes 0 (omega arith) ∙ rw zero-add
+write-within xs bytes h = write-at xs bytes 0 (omega arith) ∙ rw zero-add
+
+pub write-fits : (xs bytes : List ℕ) → length xs < length bytes → write xs (page bytes 0) ≡ page (xs ++ drop (length xs) bytes) (length xs)
+write-fits xs bytes h = write-within xs bytes (omega arith)
 
 -- the first bytes of one that does not
 pub write-cut : (xs bytes : List ℕ) → length bytes ≤ length xs → write xs (page bytes 0) ≡ page (take (length bytes) xs) (length bytes)
@@ -107,7 +110,7 @@ write-cut xs bytes h =
     let front : List ℕ = take (length bytes) xs in
     let n : length front ≡ length bytes = length-take-le (length bytes) xs h in
     let whole : write front (page bytes 0) ≡ page front (length bytes) =
-        write-fits front bytes (le-of-eq n) ∙ rw (n, drop-length, append-nil) in
+        write-within front bytes (le-of-eq n) ∙ rw (n, drop-length, append-nil) in
     ap (λ (l : List ℕ). write l (page bytes 0)) (sym (take-append-drop (length bytes) xs))
     ∙ write-append front (drop (length bytes) xs) (page bytes 0) ∙ ap (write (drop (length bytes) xs)) whole
     ∙ write-end (drop (length bytes) xs) front (length bytes) (le-of-eq n)
@@ -122,7 +125,7 @@ front-written xs b e r w =
     ∙ on-below (length b) (length xs)
     (λ l. let h : length b ≤ length xs = omega arith in
     ap (λ (p : Page). take (p .next) (p .bytes)) (write-cut xs b h) ∙ take-take (length b) (length b) xs (le-refl (length b)))
-    (λ l. ap (λ (p : Page). take (p .next) (p .bytes)) (write-fits xs b l) ∙ take-append-seam xs (drop (length xs) b) ∙ sym (take-all (length b) xs l))
+    (λ l. ap (λ (p : Page). take (p .next) (p .bytes)) (write-within xs b l) ∙ take-append-seam xs (drop (length xs) b) ∙ sym (take-all (length b) xs l))
 
 -- and all of it, where the page is not full
 pub whole-written : (xs b e : List ℕ) (r : ℕ) → page e r ≡ write xs (page b 0) → r < length b → take r e ≡ xs
