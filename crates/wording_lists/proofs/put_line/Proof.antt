@@ -1,8 +1,8 @@
--- `wording::put_line` meets its contract. Assumes nothing.
-use Rattle.wording.proofs.Listed.{line-put}
+-- `wording_lists::put_line` meets its contract. Assumes nothing.
+use Rattle.wording_lists.proofs.Listed.{line-put}
 use borrow.Author.Needs.{needs}
-use Rattle.wording.proofs.put_line.Statement.{statement}
-use Rattle.wording.proofs.put_line.Tie as tie
+use Rattle.wording_lists.proofs.put_line.Statement.{statement}
+use Rattle.wording_lists.proofs.put_line.Tie as tie
 
 put-text-requires : tie.Need-put-text-requires
 put-text-requires c κs = search needs

@@ -1,16 +1,16 @@
--- `wording::put_rows` meets its contract: what is left, written on the page as it is, gives the page with all of it. Assumes nothing.
+-- `wording_lists::put_rows` meets its contract: what is left, written on the page as it is, gives the page with all of it. Assumes nothing.
 use mathlib.Core.Path.{_≡_, refl}
 use Prim.Native.Nat.{_-_, _≤_}
 use native.Mathlib.Nat.{div-le-self}
 use lib.ListN.{length, drop}
 use Rattle.wording.specs.Pages.{page, write}
 use Rattle.lists.specs.Lists.{upTo, flat}
 use Rattle.wording.specs.Forms.{rowFilled, rows}
-use Rattle.wording.proofs.Writing.{left-length}
-use Rattle.wording.proofs.Listed.{row-within, left-number, left-no-number}
+use Rattle.wording.proofs.Writing.{left-number, left-no-number, left-length}
+use Rattle.wording_lists.proofs.Listed.{row-within}
 use borrow.Author.Needs.{needs}
-use Rattle.wording.proofs.put_rows.Statement.{statement}
-use Rattle.wording.proofs.put_rows.Tie as tie
+use Rattle.wording_lists.proofs.put_rows.Statement.{statement}
+use Rattle.wording_lists.proofs.put_rows.Tie as tie
 
 abbrev Inv-loop : tie.InvT-loop
 Inv-loop out₀ at form k ws n next₀ i₀ out next i =

@@ -2,18 +2,18 @@
 use mathlib.Core.Path.{_≡_, refl, sym, ap, ap₂, _∙_}
 use mathlib.Core.List.{List, [], _∷_, _++_, append-nil}
 use Prim.Native.Nat.{ℕ, zero, suc, _+_, _*_, _-_, _/_, _≤_, _<_}
-use native.Mathlib.Nat.{not-suc-le-zero, le-of-suc-le-suc, le-refl, mul-le-mul-right, div-mul-le-self}
+use native.Mathlib.Nat.{not-suc-le-zero, le-refl, mul-le-mul-right, div-mul-le-self}
 use native.Mathlib.Numerals.{add-one}
 use native.Mathlib.Omega.{arith}
-use lib.ListN.{length, getD, take, drop, length-drop, drop-of-length-le}
+use lib.ListN.{length, take, drop, length-drop, drop-of-length-le}
 use lib.Seq.{drop-cons, drop-drop, take-all}
-use Rattle.lists.specs.Lists.{wordAt, upTo, flat}
-use Rattle.lists.proofs.Tab.{length-tab, drop-tab}
+use Rattle.lists.specs.Lists.{wordAt, flat}
 use Rattle.lists.proofs.Parts.{part-count}
 use Rattle.wording.specs.Texts.{decimal}
 use Rattle.wording.specs.Pages.{Page, page, writeByte, write}
-use Rattle.wording.specs.Forms.{filled, rowAt, rowFilled, joined, afterBlank, numbersOr, numberLine, listLines, listed, ListEnd}
+use Rattle.wording.specs.Forms.{filled, rowAt, rowFilled, joined, numberLine, listLines, listed}
+use Rattle.wording_lists.specs.Parts.{afterBlank, numbersOr, ListEnd}
 use Rattle.wording.proofs.Writing.{one-byte, nothing-written, then, left-more}
 
 -- ---- rows
 
@@ -25,17 +25,6 @@ pub row-put : (form : List ℕ) (k i : ℕ) (ws : List ℕ) (p : Page) (c : List
     → page c q ≡ write (rowFilled form k ws i) p
 unfolding rowFilled rowAt
 row-put form k i ws p c q e = rw part-count at e
-
--- the texts of the numbers from i on, below n
-module _ (w : Page) (f : ℕ → List ℕ) (n : ℕ) (b : List ℕ) (i r : ℕ) where
-  pub left-number : (c : List ℕ) (q : ℕ) → i < n → write (flat f (drop i (upTo n))) (page b r) ≡ w → page c q ≡ write (f i) (page b r)
-      → write (flat f (drop (i + 1) (upTo n))) (page c q) ≡ w
-  unfolding flat
-  left-number c q h e g = left-more w b c (f i) (flat f (drop (i + 1) (upTo n))) r q (rw (drop-tab (λ (j : ℕ). j) n i h) at e) g
-
-  pub left-no-number : n ≤ i → write (flat f (drop i (upTo n))) (page b r) ≡ w → page b r ≡ w
-  unfolding flat write
-  left-no-number h e = rw (drop-of-length-le (upTo n) {i = i} (rw length-tab h)) at e
 
 -- ---- numbers in a line
 

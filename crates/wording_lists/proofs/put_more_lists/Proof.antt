@@ -1,14 +1,14 @@
--- `wording::put_more_lists` meets its contract: what is left, written on the page as it is, gives the page with all of it. Assumes nothing.
+-- `wording_lists::put_more_lists` meets its contract: what is left, written on the page as it is, gives the page with all of it. Assumes nothing.
 use mathlib.Core.Path.{_≡_, refl}
 use Prim.Native.Nat.{_-_}
 use lib.ListN.{length, drop}
 use Rattle.wording.specs.Pages.{page, write}
 use Rattle.wording.specs.Forms.{listed}
 use Rattle.wording.proofs.Writing.{left-length}
-use Rattle.wording.proofs.Listed.{left-list, left-no-list}
+use Rattle.wording_lists.proofs.Listed.{left-list, left-no-list}
 use borrow.Author.Needs.{needs}
-use Rattle.wording.proofs.put_more_lists.Statement.{statement}
-use Rattle.wording.proofs.put_more_lists.Tie as tie
+use Rattle.wording_lists.proofs.put_more_lists.Statement.{statement}
+use Rattle.wording_lists.proofs.put_more_lists.Tie as tie
 
 abbrev Inv-loop : tie.InvT-loop
 Inv-loop out₀ at opening none ws from next₀ i₀ out next i = write (listed opening opening none (drop i ws)) (page out next) ≡ write (listed opening opening none (drop from ws)) (page out₀ at)

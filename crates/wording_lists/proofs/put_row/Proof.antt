@@ -1,8 +1,8 @@
--- `wording::put_row` meets its contract. Assumes nothing.
-use Rattle.wording.proofs.Listed.{row-put}
+-- `wording_lists::put_row` meets its contract. Assumes nothing.
+use Rattle.wording_lists.proofs.Listed.{row-put}
 use borrow.Author.Needs.{needs}
-use Rattle.wording.proofs.put_row.Statement.{statement}
-use Rattle.wording.proofs.put_row.Tie as tie
+use Rattle.wording_lists.proofs.put_row.Statement.{statement}
+use Rattle.wording_lists.proofs.put_row.Tie as tie
 
 mul-start : tie.Need-mul-start
 mul-start c = search needs

@@ -1,8 +1,8 @@
--- `wording::put_lists` meets its contract. Assumes nothing.
-use Rattle.wording.proofs.Listed.{listed-none, listed-some}
+-- `wording_lists::put_lists` meets its contract. Assumes nothing.
+use Rattle.wording_lists.proofs.Listed.{listed-none, listed-some}
 use borrow.Author.Needs.{needs}
-use Rattle.wording.proofs.put_lists.Statement.{statement}
-use Rattle.wording.proofs.put_lists.Tie as tie
+use Rattle.wording_lists.proofs.put_lists.Statement.{statement}
+use Rattle.wording_lists.proofs.put_lists.Tie as tie
 
 returns : tie.Need-returns
 returns c = search listed-none

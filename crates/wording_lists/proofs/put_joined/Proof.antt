@@ -1,8 +1,8 @@
--- `wording::put_joined` meets its contract. Assumes nothing.
-use Rattle.wording.proofs.Listed.{joined-none, joined-some}
+-- `wording_lists::put_joined` meets its contract. Assumes nothing.
+use Rattle.wording_lists.proofs.Listed.{joined-none, joined-some}
 use borrow.Author.Needs.{needs}
-use Rattle.wording.proofs.put_joined.Statement.{statement}
-use Rattle.wording.proofs.put_joined.Tie as tie
+use Rattle.wording_lists.proofs.put_joined.Statement.{statement}
+use Rattle.wording_lists.proofs.put_joined.Tie as tie
 
 returns : tie.Need-returns
 returns c = search joined-none

@@ -1,8 +1,8 @@
--- `wording::put_numbers` meets its contract. Assumes nothing.
-use Rattle.wording.proofs.Listed.{or-none, or-some}
+-- `wording_lists::put_numbers` meets its contract. Assumes nothing.
+use Rattle.wording_lists.proofs.Listed.{or-none, or-some}
 use borrow.Author.Needs.{needs}
-use Rattle.wording.proofs.put_numbers.Statement.{statement}
-use Rattle.wording.proofs.put_numbers.Tie as tie
+use Rattle.wording_lists.proofs.put_numbers.Statement.{statement}
+use Rattle.wording_lists.proofs.put_numbers.Tie as tie
 
 put-text-requires : tie.Need-put-text-requires
 put-text-requires c κs = search needs
