@@ -19,24 +19,6 @@ use Rattle.commands.specs.declared.Query.the-variants.{Sort, Costs, Upstream, D
 abbrev pub room : ℕ
 room = 131072
 
--- the call that a question makes, on the words of a table
-unfoldable pub asked : Query → List ℕ → List ℕ → Result
-asked Sort ws lent = onFormed ws lent (sortResult lent)
-asked (Costs v) ws lent = onFormed ws lent (fromResult (v .0) lent)
-asked (Upstream v) ws lent = onFormed ws lent (reachedResult To (v .0) lent)
-asked (Downstream v) ws lent = onFormed ws lent (reachedResult From (v .0) lent)
-asked (Next v) ws lent = onFormed ws lent (relatedResult (Along From) (v .0) lent)
-asked (Before v) ws lent = onFormed ws lent (relatedResult (Along To) (v .0) lent)
-asked Components ws lent = onFormed ws lent (connectedComponentsResult lent)
-asked Strong ws lent = onFormed ws lent (strongComponentsResult lent)
-asked Closure ws lent = onFormed ws lent (closureResult lent)
-asked Cut ws lent = onFormed ws lent (cutVerticesResult lent)
-asked Orphans ws lent = onFormed ws lent (orphanVerticesResult lent)
-asked Endpoints ws lent = onFormed ws lent (endpointsResult lent)
-asked (FindTube w) ws lent = onFormed ws lent (vertexIndexResult w lent)
-asked (FindTransfer w) ws lent = onFormed ws lent (weighingResult w lent)
-asked (Walk start steps seed) ws lent = onFormed ws lent (walkResult (start .0) steps seed lent)
-
 -- ---- in words
 
 -- the first line: the question, with its numbers
