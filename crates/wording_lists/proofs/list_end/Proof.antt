@@ -1,8 +1,8 @@
--- `wording::list_end` meets its contract. Assumes nothing.
-use Rattle.wording.proofs.Listed.{end-cut, end-whole}
+-- `wording_lists::list_end` meets its contract. Assumes nothing.
+use Rattle.wording_lists.proofs.Listed.{end-cut, end-whole}
 use borrow.Author.Needs.{needs}
-use Rattle.wording.proofs.list_end.Statement.{statement}
-use Rattle.wording.proofs.list_end.Tie as tie
+use Rattle.wording_lists.proofs.list_end.Statement.{statement}
+use Rattle.wording_lists.proofs.list_end.Tie as tie
 
 word-at-requires : tie.Need-word-at-requires
 word-at-requires c κs = search needs

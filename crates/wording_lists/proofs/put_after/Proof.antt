@@ -1,8 +1,8 @@
--- `wording::put_after` meets its contract. Assumes nothing.
-use Rattle.wording.proofs.Listed.{blank-first}
+-- `wording_lists::put_after` meets its contract. Assumes nothing.
+use Rattle.wording_lists.proofs.Listed.{blank-first}
 use borrow.Author.Needs.{needs}
-use Rattle.wording.proofs.put_after.Statement.{statement}
-use Rattle.wording.proofs.put_after.Tie as tie
+use Rattle.wording_lists.proofs.put_after.Statement.{statement}
+use Rattle.wording_lists.proofs.put_after.Tie as tie
 
 put-byte-requires : tie.Need-put-byte-requires
 put-byte-requires c κs = search needs

@@ -1,15 +1,14 @@
--- `wording::put_others` meets its contract: what is left, written on the page as it is, gives the page with all of it. Assumes nothing.
+-- `wording_lists::put_others` meets its contract: what is left, written on the page as it is, gives the page with all of it. Assumes nothing.
 use mathlib.Core.Path.{_≡_, refl}
-use Prim.Native.Nat.{_≤_, _-_}
+use Prim.Native.Nat.{_-_}
 use lib.ListN.{length, drop}
 use Rattle.lists.specs.Lists.{flat}
 use Rattle.wording.specs.Pages.{page, write}
-use Rattle.wording.specs.Forms.{afterBlank}
-use Rattle.wording.proofs.Writing.{left-length}
-use Rattle.wording.proofs.Filled.{left-text, left-no-text}
+use Rattle.wording_lists.specs.Parts.{afterBlank}
+use Rattle.wording.proofs.Writing.{left-text, left-no-text, left-length}
 use borrow.Author.Needs.{needs}
-use Rattle.wording.proofs.put_others.Statement.{statement}
-use Rattle.wording.proofs.put_others.Tie as tie
+use Rattle.wording_lists.proofs.put_others.Statement.{statement}
+use Rattle.wording_lists.proofs.put_others.Tie as tie
 
 abbrev Inv-loop : tie.InvT-loop
 Inv-loop out₀ at ns next₀ i₀ out next i = write (flat afterBlank (drop i ns)) (page out next) ≡ write (flat afterBlank (drop 1 ns)) (page out₀ at)

@@ -2,18 +2,18 @@
 use mathlib.Core.Path.{_≡_, refl, sym, ap, ap₂, _∙_}
 use mathlib.Core.List.{List, [], _∷_, _++_, append-nil}
 use Prim.Native.Nat.{ℕ, zero, suc, _+_, _*_, _-_, _/_, _≤_, _<_}
-use native.Mathlib.Nat.{not-suc-le-zero, le-of-suc-le-suc, le-refl, mul-le-mul-right, div-mul-le-self}
+use native.Mathlib.Nat.{not-suc-le-zero, le-refl, mul-le-mul-right, div-mul-le-self}
 use native.Mathlib.Numerals.{add-one}
 use native.Mathlib.Omega.{arith}
-use lib.ListN.{length, getD, take, drop, length-drop, drop-of-length-le}
+use lib.ListN.{length, take, drop, length-drop, drop-of-length-le}
 use lib.Seq.{drop-cons, drop-drop, take-all}
-use Rattle.lists.specs.Lists.{wordAt, upTo, flat}
-use Rattle.lists.proofs.Tab.{length-tab, drop-tab}
+use Rattle.lists.specs.Lists.{wordAt, flat}
 use Rattle.lists.proofs.Parts.{part-count}
 use Rattle.wording.specs.Texts.{decimal}
 use Rattle.wording.specs.Pages.{Page, page, writeByte, write}
-use Rattle.wording.specs.Forms.{filled, rowAt, rowFilled, joined, afterBlank, numbersOr, numberLine, listLines, listed, ListEnd}
+use Rattle.wording.specs.Forms.{filled, rowAt, rowFilled, joined, numberLine, listLines, listed}
+use Rattle.wording_lists.specs.Parts.{afterBlank, numbersOr, ListEnd}
 use Rattle.wording.proofs.Writing.{one-byte, nothing-written, then, left-more}
 
 -- ---- rows
 
@@ -21,18 +21,10 @@ use Rattle.wording.proofs.Writing.{one-byte, nothing-written, then, lef
 pub row-within : (k i : ℕ) (ws : List ℕ) → i < length ws / k → i * k + k ≤ length ws
 row-within k i ws h = omega (arith, mul-le-mul-right k h, div-mul-le-self (length ws) k)
 
-module _ (w : Page) (form : List ℕ) (k : ℕ) (ws b : List ℕ) (i r : ℕ) where
-  pub left-row : (n : ℕ) (c : List ℕ) (q : ℕ) → i < n → write (flat (rowFilled form k ws) (drop i (upTo n))) (page b r) ≡ w
-      → page c q ≡ write (filled form (take (i * k + k - i * k) (drop (i * k) ws)) []) (page b r)
-      → write (flat (rowFilled form k ws) (drop (i + 1) (upTo n))) (page c q) ≡ w
-  unfolding flat rowFilled rowAt
-  left-row n c q h e g =
-      left-more w b c (rowFilled form k ws i) (flat (rowFilled form k ws) (drop (i + 1) (upTo n))) r q (rw (drop-tab (λ (j : ℕ). j) n i h) at e)
-      (rw part-count at g)
-
-  pub left-no-row : (n : ℕ) → n ≤ i → write (flat (rowFilled form k ws) (drop i (upTo n))) (page b r) ≡ w → page b r ≡ w
-  unfolding flat write
-  left-no-row n h e = rw (drop-of-length-le (upTo n) {i = i} (rw length-tab h)) at e
+pub row-put : (form : List ℕ) (k i : ℕ) (ws : List ℕ) (p : Page) (c : List ℕ) (q : ℕ) → page c q ≡ write (filled form (take (i * k + k - i * k) (drop (i * k) ws)) []) p
+    → page c q ≡ write (rowFilled form k ws i) p
+unfolding rowFilled rowAt
+row-put form k i ws p c q e = rw part-count at e
 
 -- ---- numbers in a line
 
@@ -47,10 +39,10 @@ module _ (p : Page) (c : List ℕ) (q : ℕ) where
   unfolding afterBlank
   blank-first n b r e f = then p b c (32 ∷ []) (decimal n) r q (e ∙ sym (one-byte 32 p)) f
 
-  pub joined-some : (ns b : List ℕ) (r : ℕ) → (length ns ≡ 0 → ⊥) → page b r ≡ write (decimal (getD ns 0 0)) p
+  pub joined-some : (ns b : List ℕ) (n r : ℕ) → (length ns ≡ 0 → ⊥) → n ≡ wordAt ns 0 → page b r ≡ write (decimal n) p
       → page c q ≡ write (flat afterBlank (drop 1 ns)) (page b r) → page c q ≡ write (joined ns) p
-  joined-some [] b r ne e f = absurd (ne refl)
-  joined-some (n ∷ ns) b r ne e f = rw (joined-is n ns) (then p b c (decimal n) (flat afterBlank ns) r q e f)
+  joined-some [] b n r ne h e f = absurd (ne refl)
+  joined-some (m ∷ ns) b n r ne h e f = rw (joined-is m ns, ← h) (then p b c (decimal n) (flat afterBlank ns) r q e f)
 
   pub or-none : (none ns : List ℕ) → length ns ≡ 0 → page c q ≡ write none p → page c q ≡ write (numbersOr none ns) p
   unfolding numbersOr
