@@ -40,3 +40,8 @@ pub record Begins (text : List ℕ) (from next : ℕ) : Type 0 where
   pub low : from ≤ next
   pub high : next ≤ length text
   pub rest : drop next text ≡ otherLines (drop from text)
+
+-- line k begins at `from`
+pub record Stands (text : List ℕ) (k from : ℕ) : Type 0 where
+  pub high : from ≤ length text
+  pub rest : drop from text ≡ behind k text
