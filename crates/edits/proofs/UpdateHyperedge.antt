@@ -88,7 +88,7 @@ from-members k x (v ∷ es) i e = on-same x (v .number)
     let r = from-members (suc k) x es i (rw (ne-eqb x (v .number) q) at e) in
     (suc (r .0), omega (arith, r .1), suc-le-suc (r .2), rw (ne-eqb (v .number) x (λ w. q (sym w))) (r .3)))
 
-members-found : (L : ℕ) (ws : List ℕ) (x j : ℕ) → position x (liveHyperedges (read L ws)) ≡ At j → membersOf x (readHyperedges L ws) ≡ membersAt L ws j
+pub members-found : (L : ℕ) (ws : List ℕ) (x j : ℕ) → position x (liveHyperedges (read L ws)) ≡ At j → membersOf x (readHyperedges L ws) ≡ membersAt L ws j
 unfolding position
 members-found L ws x j e =
     let r = from-members zero x (readHyperedges L ws) j e in
