@@ -1,2 +1,4 @@
 pub mod Writing
 pub mod Numbers
+pub mod Filled
+pub mod Listed

@@ -1,12 +1,12 @@
 // Texts, numbers and forms written on a page: a lent slice of bytes, and the place where the next byte goes. What no longer fits is not
 // written, and the place stays at the end of the slice.
 ghost use mathlib.Core.Path.{_≡_};
-ghost use Prim.Native.Nat.{_<_};
+ghost use Prim.Native.Nat.{_+_, _*_, _<_, _≤_};
 ghost use lib.ListN.{length, drop};
 ghost use Rattle.lists.specs.Lists.{wordAt, flat};
 ghost use Rattle.wording.specs.Texts.{decimal};
 ghost use Rattle.wording.specs.Pages.{page, writeByte, write};
-ghost use Rattle.wording.specs.Forms.{wideAt, meant, filled, rows, joined, afterBlank, numbersOr, numberLine, ListEnd, listed};
+ghost use Rattle.wording.specs.Forms.{wideAt, meant, filled, rowFilled, rows, joined, afterBlank, numbersOr, numberLine, ListEnd, listed};
 
 // One byte.
 pub fn put_byte(out: &mut [u8], at: usize, b: u8) -> usize
@@ -93,6 +93,15 @@ pub fn put_form(out: &mut [u8], at: usize, form: &[u8], ns: &[u32], name: &[u8])
     next
 }
 
+// Row i of k words, filled in.
+fn put_row(out: &mut [u8], at: usize, form: &[u8], k: usize, ws: &[u32], i: usize) -> usize
+    requires { ⌜ i * k + k ≤ length (now ws) ⌝ }
+    ensures { λ r. ⌜ page (now (out .exit)) r ≡ write (rowFilled (now (form .entry)) k (now (ws .entry)) i) (page (now (out .entry)) at) ⌝ }
+{
+    let start = i * k;
+    put_form(out, at, form, &ws[start..start + k], b"")
+}
+
 // Every whole row of k words, filled in.
 pub fn put_rows(out: &mut [u8], at: usize, form: &[u8], k: usize, ws: &[u32]) -> usize
     requires { ⌜ 0 < k ⌝ }
@@ -102,7 +111,7 @@ pub fn put_rows(out: &mut [u8], at: usize, form: &[u8], k: usize, ws: &[u32]) ->
     let mut next = at;
     let mut i = 0;
     while i < n {
-        next = put_form(out, next, form, &ws[i * k..i * k + k], b"");
+        next = put_row(out, next, form, k, ws, i);
         i += 1;
     }
     next
@@ -136,7 +145,7 @@ pub fn put_joined(out: &mut [u8], at: usize, ns: &[u32]) -> usize
     if ns.len() == 0 {
         return at;
     }
-    let next = put_number(out, at, ns[0] as u64);
+    let next = put_number(out, at, word_at(ns, 0) as u64);
     put_others(out, next, ns)
 }
 

@@ -1,47 +1,46 @@
+-- `wording::put_form` meets its contract: what is left of the form, filled in and written on the page as it is, gives the page with all of it. Assumes nothing.
+use mathlib.Core.Path.{_≡_, refl}
+use Prim.Native.Nat.{_≤_, _-_}
+use lib.ListN.{length, drop}
+use Rattle.lists.specs.Lists.{flat}
+use Rattle.wording.specs.Pages.{page, write}
+use Rattle.wording.specs.Forms.{meant, filled}
+use Rattle.wording.proofs.Writing.{left-length}
+use Rattle.wording.proofs.Filled.{left-text, left-no-text}
 use borrow.Author.Needs.{needs}
 use Rattle.wording.proofs.put_form.Statement.{statement}
 use Rattle.wording.proofs.put_form.Tie as tie
-use Rattle.wording.proofs.put_form.Reads as reads
-use Rattle.wording.proofs.put_form.Lts as lts
-use Rattle.wording.proofs.put_meant.Reads as put-meant-reads
 
 abbrev Inv-loop : tie.InvT-loop
-Inv-loop out₀ at form ns name next₀ i₀ out next i = ?
+Inv-loop out₀ at form ns name next₀ i₀ out next i = write (flat (meant ns name) (drop i form)) (page out next) ≡ write (filled form ns name) (page out₀ at)
 
 abbrev μ-loop : tie.MeasureT-loop
-μ-loop out₀ at form ns name next₀ i₀ out next i = ?
+μ-loop out₀ at form ns name next₀ i₀ out next i = length form - i
 
--- src/lib.rt:89:5
 loop-holds : tie.Need-loop-holds Inv-loop μ-loop
-loop-holds c = search needs
+unfolding filled
+loop-holds c = refl
 
--- src/lib.rt:90:47
 shared-slice-read-put-meant : tie.Need-shared-slice-read-put-meant Inv-loop μ-loop
 shared-slice-read-put-meant c = search needs
 
--- src/lib.rt:90:9
 put-meant-requires : tie.Need-put-meant-requires Inv-loop μ-loop
 put-meant-requires c κs = search needs
 
--- src/lib.rt:91:9
 add-i : tie.Need-add-i Inv-loop μ-loop
 add-i c = search needs
 
--- src/lib.rt:89:5
 loop-less : tie.Need-loop-less Inv-loop μ-loop
 loop-less c = search needs
 
--- src/lib.rt:89:5
 loop-again : tie.Need-loop-again Inv-loop μ-loop
-loop-again c = search needs
+loop-again c = search left-text
 
--- src/lib.rt:84:1
 same-length : tie.Need-same-length Inv-loop μ-loop
-same-length c = search needs
+same-length c = search left-length
 
--- src/lib.rt:84:1
 returns : tie.Need-returns Inv-loop μ-loop
-returns c = search needs
+returns c = search left-no-text
 
 pub put-form-spec : {M : Type 1} → statement M
 put-form-spec =
