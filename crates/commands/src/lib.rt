@@ -66,3 +66,9 @@ pub enum Command {
     WrongCount(usize),
     TooMany,
 }
+
+// What a line asks for, and how many numbers it has.
+pub struct Parsed {
+    pub command: Command,
+    pub count: usize,
+}
