@@ -48,7 +48,16 @@ fn list_in(c: Command, ns: &[u32]) -> &[u32]
 }
 
 // Carries out a command on the page.
-fn tell(t: &mut [u32], s: &mut [u32], c: Command, ns: &[u32], plain: bool, name: &[u8], out: &mut [u8], at: usize) -> Answer
+fn tell(
+    t: &mut [u32],
+    s: &mut [u32],
+    c: Command,
+    ns: &[u32],
+    plain: bool,
+    name: &[u8],
+    out: &mut [u8],
+    at: usize,
+) -> Answer
     ensures { λ r. ⌜ telling r (deskOf (now (t .exit)) (now (s .exit))) (now (out .exit)) ≡ told plain (now (name .entry)) c (now (ns .entry)) (deskOf (now (t .entry)) (now (s .entry))) (page (now (out .entry)) at) ⌝ }
 {
     match c {

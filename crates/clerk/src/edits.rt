@@ -149,10 +149,23 @@ fn store_desk(
     let states_too = !files::same(states_now, states);
     if !files::are_still(name, text, desk, states) {
         os::unlink(new);
-        files::say_of(name, b" was changed by another program meanwhile; nothing was changed\n");
+        files::say_of(
+            name,
+            b" was changed by another program meanwhile; nothing was changed\n",
+        );
         return FAILED;
     }
-    store(fd, name, new, desk, desk_new, text_now, text_too, states_now, states_too)
+    store(
+        fd,
+        name,
+        new,
+        desk,
+        desk_new,
+        text_now,
+        text_too,
+        states_now,
+        states_too,
+    )
 }
 
 // What was done is printed once it is stored.
@@ -216,7 +229,18 @@ fn edit_text(
         }
         Read::Bytes(k) => {
             let states = part(&states, k);
-            edit_texts(fd, name, new, desk, desk_new, text, states, batch, single, plain)
+            edit_texts(
+                fd,
+                name,
+                new,
+                desk,
+                desk_new,
+                text,
+                states,
+                batch,
+                single,
+                plain,
+            )
         }
     }
 }

@@ -1,12 +1,9 @@
 // The program of the bench: `FILE COMMAND ..` carries out one command, `FILE` alone those on standard input, a line each, all or none. The
 // exit status is handed to the launcher as a digit on descriptor 9.
-mod arguments;
 mod edits;
-mod files;
 mod looks;
 
-use arguments::Words;
-use files::part;
+use clerk_files as files;
 
 // Descriptor 9 is the launcher's.
 const LAUNCHER: i32 = 9;
@@ -43,7 +40,9 @@ fn serve_batch(name: &[u8], plain: bool) -> u8 {
         }
         files::Read::Bytes(n) => {
             if n == arguments::BATCH {
-                files::say(b"vaultsorrel: a batch has less than 1048576 bytes; nothing was changed\n");
+                files::say(
+                    b"vaultsorrel: a batch has less than 1048576 bytes; nothing was changed\n",
+                );
                 return MISUSED;
             }
             serve(name, part(&batch, n), false, plain)

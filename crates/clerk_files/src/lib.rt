@@ -1,4 +1,6 @@
 // Files: read whole, written beside the old one, synced and renamed over it.
+pub mod arguments;
+
 use wording::put_text;
 
 // What reading to the end gives: how many bytes, or that a read failed; `errno` says why.
@@ -16,7 +18,7 @@ pub const PATH: usize = 4160;
 // The first n bytes, or all.
 pub fn part(bytes: &[u8], n: usize) -> &[u8] {
     if n <= bytes.len() {
-        return &bytes[..n];
+        return &bytes[0..n];
     }
     bytes
 }
@@ -48,14 +50,11 @@ fn read_more(fd: i32, bytes: &mut [u8], at: usize) -> isize {
     0
 }
 
-// How far a read came.
-fn moved(at: usize, got: isize, most: usize) -> usize {
-    if got > 0 {
-        let k = got as usize;
-        if at <= most {
-            if k <= most - at {
-                return at + k;
-            }
+// How far a read of k bytes came.
+fn moved(at: usize, k: usize, most: usize) -> usize {
+    if at <= most {
+        if k <= most - at {
+            return at + k;
         }
     }
     most
@@ -73,7 +72,8 @@ pub fn read_to_end(fd: i32, bytes: &mut [u8], from: usize) -> Read {
         if got == 0 {
             return Read::Bytes(at);
         }
-        at = moved(at, got, most);
+        let k = io::count(got, bytes);
+        at = moved(at, k, most);
         turns -= 1;
     }
     Read::Bytes(at)
@@ -160,7 +160,10 @@ pub fn open_new(new: &[u8]) -> i32 {
         return fd;
     }
     if os::errno() == libc::EEXIST {
-        say_of(new, b" is there: another run is at work, or was ended; nothing was changed\n");
+        say_of(
+            new,
+            b" is there: another run is at work, or was ended; nothing was changed\n",
+        );
         return fd;
     }
     fail(new);
@@ -187,15 +190,15 @@ pub fn put_ending(path: &mut [u8], name: &[u8], ending: &[u8]) -> usize {
 
 // How many bytes of the name stand before its last part.
 fn folder_length(name: &[u8]) -> usize {
-    let mut length = 0;
+    let mut n = 0;
     let mut i = 0;
     while i < name.len() {
         if name[i] == 47 {
-            length = i + 1;
+            n = i + 1;
         }
         i += 1;
     }
-    length
+    n
 }
 
 // Sees that the folder's entries are on the disk, where the system can.

@@ -1,5 +1,5 @@
 // The words that the program was started with: the file, the command and its arguments, and `--plain` anywhere among them.
-use crate::files::same;
+use crate::same;
 use wording::put_text;
 
 // A file's name has fewer bytes than this, and so has an argument; a batch has fewer than that.
