@@ -1,0 +1,1 @@
+// The sheet of a path, written on a page.

@@ -1,0 +1,1 @@
+// Lines of tubes and of transfers, written on a page.
