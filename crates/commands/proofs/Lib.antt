@@ -1,2 +1,4 @@
 pub mod Examples
 pub mod Names
+pub mod Values
+pub mod Scans
