@@ -8,7 +8,7 @@ ghost use Rattle.graph.specs.Bfs.{bfs};
 ghost use Rattle.graph.specs.Held.{Marks};
 ghost use Rattle.components.specs.Parts.{flagged};
 ghost use Rattle.rings.specs.Search.{leadsTo, before, comesBack, ringFrom, ringOf};
-ghost use Rattle.rings.specs.State.{Begun, passed, Stands};
+ghost use Rattle.rings.specs.State.{Tested, Begun, passed, Stands};
 
 fn leads_to(adj: &[u8; 65536], marks: &[u8; 256], y: usize, j: usize) -> bool
     requires { ⌜ (y < 256) × (j < 256) ⌝ }
@@ -35,6 +35,15 @@ fn before(adj: &[u8; 65536], n: usize, marks: &[u8; 256], y: usize) -> usize
     n
 }
 
+// Whether x lies on a closed walk; what is reached from it is marked.
+fn comes_back(adj: &[u8; 65536], n: usize, x: usize, marks: &mut [u8; 256]) -> bool
+    requires { ⌜ (n ≤ 256) × (x < n) ⌝ }
+    ensures { λ r. ⌜ Tested (matrix (now (adj .entry))) n x r (now (marks .exit)) ⌝ }
+{
+    graph::marks_from(adj, n, x, marks);
+    before(adj, n, marks, x) < n
+}
+
 // The lowest number on a closed walk, or n; what is reached from it is marked.
 fn lowest(adj: &[u8; 65536], n: usize, marks: &mut [u8; 256]) -> usize
     requires { ⌜ n ≤ 256 ⌝ }
@@ -42,8 +51,7 @@ fn lowest(adj: &[u8; 65536], n: usize, marks: &mut [u8; 256]) -> usize
 {
     let mut x = 0;
     while x < n {
-        graph::marks_from(adj, n, x, marks);
-        if before(adj, n, marks, x) < n {
+        if comes_back(adj, n, x, marks) {
             return x;
         }
         x += 1;
@@ -58,7 +66,7 @@ fn met(path: &[u32; 256], a: usize, y: usize) -> usize
 {
     let mut i = a;
     while i < 256 {
-        if path[i] as usize == y {
+        if layout::wide(path[i]) == y {
             return i + 1 - a;
         }
         i += 1;
