@@ -3,9 +3,10 @@ use mathlib.Core.Bool.{Bool, true, false, not, cond}
 use mathlib.Core.List.{List, [], _∷_}
 use Prim.Native.Nat.{ℕ, zero, suc}
 use lib.Dec.{eqb, ltb}
-use lib.ListN.{length, drop}
+use lib.ListN.{length, take, drop, replicate}
 use Rattle.lists.specs.Tests.{_and_}
-use Rattle.layout.specs.Answers.{Result}
+use Rattle.layout.specs.Layout.{limit, size, vertexLimit}
+use Rattle.layout.specs.Answers.{Result, onFormed}
 use Rattle.desk.specs.Desk.{Desk}
 use Rattle.wording.specs.Texts.{text}
 use Rattle.wording.specs.Pages.{Page, page, write}
@@ -21,9 +22,9 @@ use Rattle.asking.specs.Asking.{asked, noWords}
 use Rattle.query_sheets.specs.Queries.{querySheet}
 use Rattle.look_sheets.specs.Looks.{lookResult}
 use Rattle.change_sheets.specs.Changes.{Told, changeResult}
-use Rattle.messages.specs.Help.{helpText, helpOn, versionText}
+use Rattle.help_texts.specs.Help.{helpText, helpOn, versionText}
 use Rattle.messages.specs.Messages.{refusalText, misuseText}
-use Rattle.closed_walk.specs.Walk.{walkNamed}
+use Rattle.closed_walk.specs.Named.{closedWalkResult}
 
 -- how a batch is to be carried out: in numbers alone; as a single command; for a file that is made; the file's name
 pub record Setting : Type 0 where
@@ -31,6 +32,9 @@ pub record Setting : Type 0 where
   pub single : Bool
   pub makes : Bool
   pub name : List ℕ
+
+abbrev pub setting : Bool → Bool → Bool → List ℕ → Setting
+setting plain single makes name = record { plain = plain; single = single; makes = makes; name = name }
 
 -- what the lines so far end with: 0 all are done, 1 one was refused, 2 one was misused; the desk; the page
 pub record Ended : Type 0 where
@@ -83,6 +87,13 @@ isMisused st i c = false
 abbrev pub anew : List ℕ → List ℕ → Page
 anew message bytes = write message (page bytes 0)
 
+-- the closed walk that is named where the sort meets 9
+unfoldable pub walkNamed : ℕ → List ℕ → List ℕ
+walkNamed number ws =
+    let none = replicate vertexLimit 0 in
+    let walk = onFormed ws none (closedWalkResult none) in
+    cond (eqb number 9) (take (walk .detail) (walk .lent)) []
+
 -- the message of a refusal
 unfoldable pub refused : Setting → ℕ → Command → List ℕ → ℕ → ℕ → Desk → List ℕ → Ended
 refused st i c ns number detail d bytes =
@@ -123,3 +134,16 @@ allOrNone d e = cond (eqb (e .status) 0) e (ended (e .status) d (e .page))
 -- a batch on a desk, on a page from its front on
 unfoldable pub batch : Setting → List ℕ → Desk → List ℕ → Ended
 batch st lines d bytes = allOrNone d (carried (length lines) st 1 lines (ended 0 d (page bytes 0)))
+
+-- as many bytes as a batch may have
+abbrev pub most : ℕ
+most = 4294967295
+
+-- table and states have their lengths, and the batch is not too long
+unfoldable pub hasLengths : List ℕ → Desk → Bool
+hasLengths lines d =
+    eqb (length (d .table)) (size limit) and eqb (length (d .states)) vertexLimit and ltb (length lines) most
+
+-- the run of a batch: 2 and no byte where a length is wrong
+unfoldable pub run : Setting → List ℕ → Desk → List ℕ → Ended
+run st lines d bytes = cond (hasLengths lines d) (batch st lines d bytes) (ended 2 d (page bytes 0))
