@@ -2,18 +2,15 @@
 use mathlib.Core.Bool.{cond}
 use mathlib.Core.List.{List, [], _∷_, _++_}
 use Prim.Native.Nat.{ℕ}
+use lib.Dec.{eqb}
+use lib.ListN.{length}
 use Rattle.lists.specs.Lists.{sameList, flat}
 use Rattle.layout.specs.Content.{Hyperedge, Table, liveHyperedges, isLive}
 use Rattle.edits.specs.Results.{membersOf}
 use Rattle.wording.specs.Texts.{text}
 use Rattle.wording.specs.Forms.{filled, joined}
 
--- the verb of a removal, and that of a merge; A stands for the transfer
-abbrev pub keeps : List ℕ
-keeps = text "; transfer A keeps "
-
-abbrev pub lists : List ℕ
-lists = text "; transfer A lists "
+-- ---- of one transfer: the verb is a form in which A stands for its number
 
 -- the members that transfer x has now, or nothing where they are the old ones
 unfoldable pub relisted : List ℕ → ℕ → List ℕ → List ℕ → List ℕ
@@ -33,3 +30,22 @@ effect verb after e =
 -- of each one, ascending
 unfoldable pub effects : List ℕ → Table → Table → List ℕ
 effects verb before after = flat (effect verb after) (before .hyperedges)
+
+-- ---- the sheets
+
+-- one or several, as they were handed in
+unfoldable pub withdrawnSaid : List ℕ → List ℕ → List ℕ → List ℕ
+withdrawnSaid one several list = cond (eqb (length list) 1) one several ++ (joined list ++ text " withdrawn")
+
+-- tubes withdrawn, with what that did to the transfers
+unfoldable pub tubesSaid : List ℕ → Table → Table → List ℕ
+tubesSaid list before after = withdrawnSaid (text "tube ") (text "tubes ") list ++ (effects (text "; transfer A keeps ") before after ++ text "\n")
+
+-- transfers withdrawn
+unfoldable pub transfersSaid : List ℕ → List ℕ
+transfersSaid list = withdrawnSaid (text "transfer ") (text "transfers ") list ++ text "\n"
+
+-- tube w merged into tube v, with what that did to the transfers
+unfoldable pub mergedSaid : ℕ → ℕ → Table → Table → List ℕ
+mergedSaid v w before after =
+    filled (text "tube A merged into tube B") (w ∷ v ∷ []) [] ++ (effects (text "; transfer A lists ") before after ++ text "\n")
