@@ -2,3 +2,4 @@ pub mod Examples
 pub mod Names
 pub mod Values
 pub mod Scans
+pub mod Asks

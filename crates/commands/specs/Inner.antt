@@ -5,10 +5,12 @@ use mathlib.Core.List.{List, [], _∷_, _++_}
 use Prim.Native.Nat.{ℕ, suc, _-_}
 use lib.Dec.{eqb, ltb}
 use lib.ListN.{length, set, take, replicate}
-use Rattle.lists.specs.Lists.{all, over}
+use Rattle.lists.specs.Lists.{all, wordAt, over}
+use Rattle.commands.specs.declared.Command.{Command}
+use Rattle.commands.specs.declared.Command.the-variants.{NotNumber, WrongCount, TooMany}
 use Rattle.commands.specs.declared.Scanned.{Scanned}
 use Rattle.commands.specs.Words.{blank, largest, valueOf, isNumber, leading}
-use Rattle.commands.specs.Commands.{mostNumbers, nameAt, opensWith}
+use Rattle.commands.specs.Commands.{mostNumbers, formAt, nameAt, opensWith, takes}
 
 -- the length of the name where the line opens with it, else 0
 unfoldable pub opened : List ℕ → List ℕ → ℕ
@@ -44,3 +46,11 @@ pub record Scanning (ws : List (List ℕ)) (lent : List ℕ) (r : Scanned) (exit
   pub seen : r .seen ≡ length (leading ws)
   pub fault : r .fault ≡ faultIn ws
   pub numbers : exit ≡ over (take mostNumbers (leading ws)) lent
+
+-- what command k asks for by what was read: the place of a word that is no number, too many numbers, a wrong count, or what its numbers make
+unfoldable pub judgedBy : ℕ → Scanned → List ℕ → Command
+judgedBy k s numbers =
+    let ns = take (s .seen) numbers in
+    cond (eqb (s .fault) 0)
+    (cond (ltb mostNumbers (s .seen)) TooMany (cond (takes k (s .seen)) (formAt k .asks (wordAt ns 0) (wordAt ns 1) (wordAt ns 2)) (WrongCount k)))
+    (NotNumber (s .fault))
