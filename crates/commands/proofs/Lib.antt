@@ -3,3 +3,4 @@ pub mod Names
 pub mod Values
 pub mod Scans
 pub mod Asks
+pub mod Lines

@@ -2,15 +2,17 @@
 use mathlib.Core.Path.{_≡_}
 use mathlib.Core.Bool.{cond}
 use mathlib.Core.List.{List, [], _∷_, _++_}
-use Prim.Native.Nat.{ℕ, suc, _-_}
+use Prim.Native.Nat.{ℕ, suc, _-_, _≤_, _<_}
 use lib.Dec.{eqb, ltb}
 use lib.ListN.{length, set, take, replicate}
 use Rattle.lists.specs.Lists.{all, wordAt, over}
+use Rattle.layout.specs.declared.Found.{Found}
 use Rattle.commands.specs.declared.Command.{Command}
 use Rattle.commands.specs.declared.Command.the-variants.{NotNumber, WrongCount, TooMany}
+use Rattle.commands.specs.declared.Parsed.{Parsed}
 use Rattle.commands.specs.declared.Scanned.{Scanned}
 use Rattle.commands.specs.Words.{blank, largest, valueOf, isNumber, leading}
-use Rattle.commands.specs.Commands.{mostNumbers, formAt, nameAt, opensWith, takes}
+use Rattle.commands.specs.Commands.{mostNumbers, commandCount, formAt, nameAt, opensWith, wordsBy, takes, commandBy}
 
 -- the length of the name where the line opens with it, else 0
 unfoldable pub opened : List ℕ → List ℕ → ℕ
@@ -54,3 +56,14 @@ judgedBy k s numbers =
     cond (eqb (s .fault) 0)
     (cond (ltb mostNumbers (s .seen)) TooMany (cond (takes k (s .seen)) (formAt k .asks (wordAt ns 0) (wordAt ns 1) (wordAt ns 2)) (WrongCount k)))
     (NotNumber (s .fault))
+
+-- the line opens with the name of command k: it has that many bytes at the least
+pub record Opens (line : List ℕ) (k : ℕ) : Type 0 where
+  pub one : k < commandCount
+  pub long : length (nameAt k) ≤ length line
+
+-- a line was read whose name is f
+pub record ParsingAs (f : Found) (line lent : List ℕ) (r : Parsed) (exit : List ℕ) : Type 0 where
+  pub command : r .command ≡ commandBy line f
+  pub count : r .count ≡ length (take mostNumbers (leading (wordsBy line f)))
+  pub numbers : exit ≡ over (take mostNumbers (leading (wordsBy line f))) lent

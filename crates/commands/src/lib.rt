@@ -3,10 +3,11 @@ ghost use mathlib.Core.Path.{_≡_};
 ghost use Prim.Native.Nat.{min, _+_, _≤_, _<_};
 ghost use lib.ListN.{length, take, drop};
 ghost use Rattle.lists.specs.Lists.{sameList, wordAt};
+ghost use Rattle.layout.specs.declared.Found.the-variants.{At};
 ghost use Rattle.edits.specs.Results.{firstPassing};
 ghost use Rattle.commands.specs.Words.{wordsBehind};
 ghost use Rattle.commands.specs.Commands.{mostNumbers, commandCount, names, formAt, nameAt, named, takes, helpOn, Parsing};
-ghost use Rattle.commands.specs.Inner.{opened, padded, firstWord, worth, stored, judgedBy, Scanning};
+ghost use Rattle.commands.specs.Inner.{opened, padded, firstWord, worth, stored, judgedBy, Scanning, Opens, ParsingAs};
 use layout::Found;
 use layout::HyperedgeIndex;
 use layout::VertexIndex;
@@ -618,4 +619,36 @@ fn at_most_all(n: usize) -> usize
         return n;
     }
     MOST
+}
+
+// Reads the line as command k.
+fn parse_as(k: usize, line: &[u8], numbers: &mut [u32; MOST]) -> Parsed
+    requires { ⌜ Opens (now line) k ⌝ }
+    requires { ⌜ length (now numbers) ≡ mostNumbers ⌝ }
+    ensures { λ r. ⌜ ParsingAs (At k) (now (line .entry)) (now (numbers .entry)) r (now (numbers .exit)) ⌝ }
+{
+    let at = name_length(k);
+    let s = scan(line, at, numbers);
+    let count = at_most_all(s.seen);
+    if k == HELP {
+        let command = help_on(&line[at..]);
+        return Parsed { command, count };
+    }
+    let command = judged(k, s, numbers);
+    Parsed { command, count }
+}
+
+// Reads a line, without its line feed: what it asks for, and its numbers from the front of those lent.
+pub fn parse(line: &[u8], numbers: &mut [u32; MOST]) -> Parsed
+    requires { ⌜ length (now numbers) ≡ mostNumbers ⌝ }
+    ensures { λ r. ⌜ Parsing (now (line .entry)) (now (numbers .entry)) r (now (numbers .exit)) ⌝ }
+{
+    let f = find_name(line);
+    match f {
+        Found::At(k) => parse_as(k, line, numbers),
+        Found::Nothing => Parsed {
+            command: Command::Unknown,
+            count: 0,
+        },
+    }
 }
