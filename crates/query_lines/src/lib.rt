@@ -89,13 +89,13 @@ fn put_entries(s: Shape, ws: &[u32], out: &mut [u8], at: usize) -> usize
     ensures { λ r. ⌜ page (now (out .exit)) r ≡ write (entries s (now (ws .entry))) (page (now (out .entry)) at) ⌝ }
 {
     match s {
-        Shape::Tubes => wording::put_rows(out, at, b"  tube A\n", 1, ws),
-        Shape::Transfers => wording::put_rows(out, at, b"  transfer A\n", 1, ws),
-        Shape::Pairs => wording::put_rows(out, at, b"  A to B\n", 2, ws),
-        Shape::TubesAndCosts => wording::put_rows(out, at, b"  tube A   cost L\n", 3, ws),
-        Shape::Groups => wording::put_lists(out, at, b"  tubes ", b"  tubes ", b"none", ws),
+        Shape::Tubes => wording_lists::put_rows(out, at, b"  tube A\n", 1, ws),
+        Shape::Transfers => wording_lists::put_rows(out, at, b"  transfer A\n", 1, ws),
+        Shape::Pairs => wording_lists::put_rows(out, at, b"  A to B\n", 2, ws),
+        Shape::TubesAndCosts => wording_lists::put_rows(out, at, b"  tube A   cost L\n", 3, ws),
+        Shape::Groups => wording_lists::put_lists(out, at, b"  tubes ", b"  tubes ", b"none", ws),
         Shape::SourcesAndSinks => {
-            wording::put_lists(out, at, b"  sources ", b"  sinks ", b"none", ws)
+            wording_lists::put_lists(out, at, b"  sources ", b"  sinks ", b"none", ws)
         }
     }
 }
@@ -105,12 +105,12 @@ fn put_plainly(s: Shape, ws: &[u32], out: &mut [u8], at: usize) -> usize
     ensures { λ r. ⌜ page (now (out .exit)) r ≡ write (plainly s (now (ws .entry))) (page (now (out .entry)) at) ⌝ }
 {
     match s {
-        Shape::Tubes => wording::put_rows(out, at, b"A\n", 1, ws),
-        Shape::Transfers => wording::put_rows(out, at, b"A\n", 1, ws),
-        Shape::Pairs => wording::put_rows(out, at, b"A B\n", 2, ws),
-        Shape::TubesAndCosts => wording::put_rows(out, at, b"A L\n", 3, ws),
-        Shape::Groups => wording::put_lists(out, at, b"", b"", b"", ws),
-        Shape::SourcesAndSinks => wording::put_lists(out, at, b"", b"", b"", ws),
+        Shape::Tubes => wording_lists::put_rows(out, at, b"A\n", 1, ws),
+        Shape::Transfers => wording_lists::put_rows(out, at, b"A\n", 1, ws),
+        Shape::Pairs => wording_lists::put_rows(out, at, b"A B\n", 2, ws),
+        Shape::TubesAndCosts => wording_lists::put_rows(out, at, b"A L\n", 3, ws),
+        Shape::Groups => wording_lists::put_lists(out, at, b"", b"", b"", ws),
+        Shape::SourcesAndSinks => wording_lists::put_lists(out, at, b"", b"", b"", ws),
     }
 }
 
