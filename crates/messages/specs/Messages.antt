@@ -22,6 +22,7 @@ ending false = text "\n"
 
 -- ---- refusals
 
+-- the test that every change passes
 unfoldable pub anyChange : Change → Bool
 anyChange m = true
 
@@ -29,15 +30,18 @@ anyChange m = true
 unfoldable pub couldChange : Bool → Command → Bool
 couldChange single c = cond single (isChange anyChange c) true
 
+-- what is said of a command that was refused with an answer's number and detail
 unfoldable pub refusalText : Bool → ℕ → Command → List ℕ → List ℕ → List ℕ → ℕ → ℕ → List ℕ
 refusalText single line c list name walk number detail =
     opening single line ++ (causeText c list name walk number detail ++ ending (couldChange single c))
 
 -- ---- a file that has a faulty line
 
+-- that the line ends in CR LF, where it does
 unfoldable pub faultEnding : Bool → List ℕ
 faultEnding true = text ": it ends in CR LF\n"
 faultEnding false = text "\n"
 
+-- the line is counted from 1
 unfoldable pub faultyText : List ℕ → ℕ → Bool → List ℕ
 faultyText name line crlf = opening true 0 ++ (cause 12 line [] name ++ faultEnding crlf)

@@ -1,10 +1,10 @@
 -- What is said of lines that are no command, and the lines of the help beside the names of the commands, computed. Assumes nothing.
 use mathlib.Core.Path.{_≡_, refl}
-use mathlib.Core.Bool.{true, false, not}
+use mathlib.Core.Bool.{true, false}
 use mathlib.Core.List.{List, [], _∷_, map}
 use Prim.Native.Nat.{ℕ}
 use Rattle.lists.specs.Tests.{_and_}
-use Rattle.lists.specs.Lists.{all, sameList, tab, upTo, flat}
+use Rattle.lists.specs.Lists.{sameList, tab, upTo, flat}
 use Rattle.layout.specs.declared.Found.the-variants.{At}
 use Rattle.edits.specs.Results.{firstPassing, firstPassingFrom}
 use Rattle.wording.specs.Texts.{text, spelled, decimal}

@@ -23,6 +23,7 @@ numberText single line p said =
 unfoldable pub usageText : Bool → ℕ → ℕ → List ℕ
 usageText single line k = opening single line ++ (text "usage: vaultsorrel FILE " ++ helpOn k)
 
+-- what is said of a line, by what it was taken for; nothing of a command other than init
 unfoldable pub misuseText : Bool → ℕ → Command → List ℕ → List ℕ
 misuseText single line Unknown said = spoken single line (text "'U' is no command; help lists them") [] said
 misuseText single line (NotNumber p) said = numberText single line p said
