@@ -1,8 +1,8 @@
--- `messages::put_spoken` meets its contract. Assumes nothing.
-use Rattle.messages.proofs.Messages.{spoken-put}
+-- `misuses::put_spoken` meets its contract. Assumes nothing.
+use Rattle.misuses.proofs.Misuses.{spoken-put}
 use borrow.Author.Needs.{needs}
-use Rattle.messages.proofs.put_spoken.Statement.{statement}
-use Rattle.messages.proofs.put_spoken.Tie as tie
+use Rattle.misuses.proofs.put_spoken.Statement.{statement}
+use Rattle.misuses.proofs.put_spoken.Tie as tie
 
 put-opening-requires : tie.Need-put-opening-requires
 put-opening-requires c κs = search needs

@@ -1,9 +1,9 @@
--- `messages::put_misuse` meets its contract. Assumes nothing.
-use Rattle.messages.specs.Messages.{misuseText}
-use Rattle.messages.proofs.Messages.{as-misuse, no-misuse}
+-- `misuses::put_misuse` meets its contract. Assumes nothing.
+use Rattle.misuses.specs.Misuses.{misuseText}
+use Rattle.misuses.proofs.Misuses.{as-misuse, no-misuse}
 use borrow.Author.Needs.{needs}
-use Rattle.messages.proofs.put_misuse.Statement.{statement}
-use Rattle.messages.proofs.put_misuse.Tie as tie
+use Rattle.misuses.proofs.put_misuse.Statement.{statement}
+use Rattle.misuses.proofs.put_misuse.Tie as tie
 
 enum-told : tie.Need-enum-told
 enum-told c = search needs

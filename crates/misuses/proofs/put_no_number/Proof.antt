@@ -1,8 +1,8 @@
--- `messages::put_no_number` meets its contract. Assumes nothing.
-use Rattle.messages.specs.Messages.{numberText}
+-- `misuses::put_no_number` meets its contract. Assumes nothing.
+use Rattle.misuses.specs.Misuses.{numberText}
 use borrow.Author.Needs.{needs}
-use Rattle.messages.proofs.put_no_number.Statement.{statement}
-use Rattle.messages.proofs.put_no_number.Tie as tie
+use Rattle.misuses.proofs.put_no_number.Statement.{statement}
+use Rattle.misuses.proofs.put_no_number.Tie as tie
 
 cast-t10 : tie.Need-cast-t10
 cast-t10 c = search needs

@@ -1,8 +1,8 @@
--- `messages::put_usage` meets its contract. Assumes nothing.
-use Rattle.messages.proofs.Messages.{usage-put}
+-- `misuses::put_usage` meets its contract. Assumes nothing.
+use Rattle.misuses.proofs.Misuses.{usage-put}
 use borrow.Author.Needs.{needs}
-use Rattle.messages.proofs.put_usage.Statement.{statement}
-use Rattle.messages.proofs.put_usage.Tie as tie
+use Rattle.misuses.proofs.put_usage.Statement.{statement}
+use Rattle.misuses.proofs.put_usage.Tie as tie
 
 put-opening-requires : tie.Need-put-opening-requires
 put-opening-requires c κs = search needs
