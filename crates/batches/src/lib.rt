@@ -1,21 +1,35 @@
 // Commands carried out, one line after the other, all or none.
 ghost use mathlib.Core.Path.{_≡_};
+ghost use mathlib.Core.List.{[]};
 ghost use Prim.Native.Nat.{_≤_, _<_};
-ghost use lib.ListN.{length};
+ghost use lib.ListN.{length, take, drop};
 ghost use Rattle.layout.specs.Layout.{limit, size, vertexLimit};
+ghost use Rattle.layout.specs.Answers.{number, detail};
 ghost use Rattle.desk.specs.Desk.{deskOf};
 ghost use Rattle.wording.specs.Pages.{page};
 ghost use Rattle.change_sheets.specs.Changes.{telling};
-ghost use Rattle.batches.specs.Batches.{setting, listOf, told, isMisused, refused, commanded, lineEnd, carried, batch};
+ghost use Rattle.batches.specs.Batches.{ended, listOf, listIn, told, isMisused, walkOf, walkNamed, refused, settled, commanded, lineEnd, carried, batch, runOf, hasLengths};
 use commands::Change;
 use commands::Command;
 use layout::Answer;
+
+// Room for what is printed: the longest sheet is the closure of 256 tubes.
+pub const PAGE: usize = 2097152;
 
 // What the lines so far end with: 0 all are done, 1 one was refused, 2 one was misused; and how many bytes stand on the page.
 pub struct Ran {
     pub status: u8,
     pub length: usize,
 }
+
+// How a batch is carried out: in numbers alone, as a single command, for a file that is made.
+pub struct Manner {
+    pub plain: bool,
+    pub single: bool,
+    pub makes: bool,
+}
+
+// ---- one command
 
 // The numbers behind the first.
 fn behind_first(ns: &[u32]) -> &[u32]
@@ -32,9 +46,14 @@ fn list_of(c: Change, ns: &[u32]) -> &[u32]
     ensures { λ r. ⌜ now r ≡ listOf c (now (ns .entry)) ⌝ }
 {
     match c {
+        Change::Tube(_) => ns,
         Change::Transfer(_) => behind_first(ns),
         Change::Relist(_) => behind_first(ns),
-        _ => ns,
+        Change::WithdrawTubes => ns,
+        Change::WithdrawTransfers => ns,
+        Change::Merge(_, _) => ns,
+        Change::Review(_) => ns,
+        Change::Release => ns,
     }
 }
 
@@ -42,34 +61,16 @@ fn list_in(c: Command, ns: &[u32]) -> &[u32]
     ensures { λ r. ⌜ now r ≡ listIn c (now (ns .entry)) ⌝ }
 {
     match c {
+        Command::Init => ns,
+        Command::Ask(_) => ns,
+        Command::View(_) => ns,
         Command::Make(change) => list_of(change, ns),
-        _ => ns,
-    }
-}
-
-// Carries out a command on the page.
-fn tell(
-    t: &mut [u32],
-    s: &mut [u32],
-    c: Command,
-    ns: &[u32],
-    plain: bool,
-    name: &[u8],
-    out: &mut [u8],
-    at: usize,
-) -> Answer
-    ensures { λ r. ⌜ telling r (deskOf (now (t .exit)) (now (s .exit))) (now (out .exit)) ≡ told plain (now (name .entry)) c (now (ns .entry)) (deskOf (now (t .entry)) (now (s .entry))) (page (now (out .entry)) at) ⌝ }
-{
-    match c {
-        Command::Ask(q) => query_sheets::put_query(t, q, plain, out, at),
-        Command::View(look) => look_sheets::put_look(t, s, look, ns, plain, out, at),
-        Command::Make(change) => {
-            change_sheets::make_change(t, s, change, list_of(change, ns), plain, out, at)
-        }
-        Command::Init => Answer::Done(wording::put_form(out, at, b"U made\n", &[], name)),
-        Command::Help => Answer::Done(messages::put_help(out, at)),
-        Command::HelpOn(k) => Answer::Done(messages::put_help_on(k, out, at)),
-        Command::Version => Answer::Done(messages::put_version(out, at)),
-        _ => Answer::Done(at),
+        Command::Help => ns,
+        Command::HelpOn(_) => ns,
+        Command::Version => ns,
+        Command::Unknown => ns,
+        Command::NotNumber(_) => ns,
+        Command::WrongCount(_) => ns,
+        Command::TooMany => ns,
     }
 }

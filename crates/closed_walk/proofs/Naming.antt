@@ -1,6 +1,6 @@
 -- The closed walk that is named is one of the table's steps, and one is named exactly where the sort meets 9. Assumes nothing.
 use mathlib.Core.Path.{_≡_, refl, sym, ap, _∙_, subst}
-use mathlib.Core.Bool.{Bool, true}
+use mathlib.Core.Bool.{Bool}
 use mathlib.Core.List.{List, [], _∷_, map}
 use Prim.Native.Nat.{ℕ, zero, suc, _-_, _≤_, _<_}
 use native.Mathlib.Nat.{not-suc-le-zero, le-of-suc-le-suc}
@@ -11,11 +11,10 @@ use Rattle.lists.proofs.Cases.{on-same, not-none}
 use Rattle.lists.proofs.Count.{pigeon}
 use Rattle.lists.proofs.Maps.{map-length}
 use Rattle.lists.proofs.Memb.{below-memb}
-use Rattle.walks.specs.Walks.{Reach, Closed}
-use Rattle.layout.specs.Content.{liveVertices}
+use Rattle.walks.specs.Walks.{Closed}
 use Rattle.layout.specs.Layout.{limit, vertexLimit, vertexCount, read}
 use Rattle.layout.specs.Inner.{Formed}
-use Rattle.layout.specs.Steps.{hasStep, StepIn}
+use Rattle.layout.specs.Steps.{hasStep}
 use Rattle.layout.specs.Answers.{Result, listed}
 use Rattle.layout.proofs.Read.{live-length}
 use Rattle.graph.specs.Reach.{matrix, Edge}

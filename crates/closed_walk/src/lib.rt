@@ -1,6 +1,5 @@
 // A closed walk of the table, to be named where the sort is refused.
 ghost use mathlib.Core.Path.{_≡_};
-ghost use lib.ListN.{length};
 ghost use Rattle.layout.specs.Layout.{limit, vertexCount, read};
 ghost use Rattle.layout.specs.Inner.{Formed};
 ghost use Rattle.layout.specs.Answers.{result, onFormed};

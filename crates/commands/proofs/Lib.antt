@@ -1,4 +1,2 @@
 pub mod Examples
 pub mod Names
-pub mod Values
-pub mod Scans

@@ -2,7 +2,8 @@
 use mathlib.Core.Path.{_≡_, refl, sym, ap, _∙_}
 use mathlib.Core.Bool.{Bool, true, false, cond, not, _||_}
 use mathlib.Core.List.{List, [], _∷_, _++_}
-use Prim.Native.Nat.{ℕ, zero, suc, _+_, _-_, _≤_, _<_}
+use Prim.Native.Nat.{ℕ, zero, suc, _+_, _-_, _≤_, _<_, suc-le-suc}
+use native.Mathlib.Nat.{zero-lt-suc}
 use native.Mathlib.Omega.{arith}
 use lib.Dec.{eqb, ltb, leb}
 use lib.ListN.{length, getD, take, drop, replicate, length-append, length-take}
@@ -10,8 +11,9 @@ use lib.Seq.{take-at, take-all}
 use borrow.Author.Tests.{ltb-true, leb-true, not-true, not-false, le-leb, lt-leb, eq-eqb, ne-eqb}
 use Rattle.lists.specs.Tests.{_and_, every}
 use Rattle.lists.specs.Lists.{sameList, wordAt, tab}
-use Rattle.lists.proofs.Cases.{on, on-same, and-both, and-left, and-right, and-false-left, and-false-right}
+use Rattle.lists.proofs.Cases.{on, on-same, on-below, and-both, and-left, and-right, and-false-left, and-false-right}
 use Rattle.lists.proofs.Every.{every-at}
+use Rattle.lists.proofs.Tab.{length-tab, getD-tab}
 use Rattle.layout.specs.declared.Found.{Found}
 use Rattle.layout.specs.declared.Found.the-variants.{At, Nothing}
 use Rattle.edits.specs.Results.{firstPassing, firstPassingFrom}
@@ -19,7 +21,7 @@ use Rattle.edits.proofs.Identical.{same-not-long}
 use Rattle.edits.proofs.Passing.{passing-on, passing-here, passing-none}
 use Rattle.commands.specs.Words.{blank}
 use Rattle.commands.specs.Commands.{forms, commandCount, names, formAt, nameAt, endsAt, opensWith, named}
-use Rattle.commands.specs.Inner.{opened, widest, padded}
+use Rattle.commands.specs.Inner.{opened, widest, padded, Opens}
 
 -- ---- a line that opens with a name
 
@@ -153,3 +155,27 @@ module _ (bytes : List ℕ) (k r : ℕ) (e : r ≡ opened bytes (nameAt k)) (who
 
   pub exact-on : (r ≡ length bytes → ⊥) → firstPassingFrom (sameList bytes) (k + 1) (drop (k + 1) (tab nameAt commandCount)) ≡ whole
   exact-on ne = passing-on (sameList bytes) nameAt commandCount k whole inv commandCount refl (sameList bytes (nameAt k)) refl h (exact-unless bytes (nameAt k) r e ne)
+
+-- ---- a name that was found
+
+found-at : {A : Type 0} (p : A → Bool) (d : A) (i : ℕ) (xs : List A) (k : ℕ) → firstPassingFrom p i xs ≡ At k
+    → (j : ℕ) × (k ≡ i + j) × (j < length xs) × (p (getD xs j d) ≡ true)
+unfolding firstPassingFrom
+found-at p d i [] k e = absurd (let z : _≡_ {A = ℕ} 0 1 = cc in omega arith)
+found-at p d i (x ∷ xs) k e = on (p x)
+    (λ m. let f : At i ≡ At k = rw m at e in let g : i ≡ k = cc in (zero, omega arith, zero-lt-suc (length xs), m))
+    (λ m. let q = found-at p d (suc i) xs k (rw m at e) in (suc (q .0), omega (arith, q .1), suc-le-suc (q .2), q .3))
+
+pub opens-found : (line : List ℕ) (f : Found) (k : ℕ) → f ≡ named line → f ≡ At k → Opens line k
+unfolding named
+opens-found line f k e q =
+    let s = found-at (opensWith line) [] 0 (tab nameAt commandCount) k (names-first (opensWith line) ∙ sym e ∙ q) in
+    let i : k ≡ s .0 = omega (arith, s .1) in
+    let h : k < commandCount = rw i (rw length-tab at (s .2)) in
+    let o : opensWith line (nameAt k) ≡ true = rw (← getD-tab nameAt commandCount k [] h, i) (s .3) in
+    record {
+      one = h;
+      long = on-below (length line) (length (nameAt k))
+          (λ l. absurd (omega (arith, name-some k h, opens-short line (nameAt k) l, opens-so line (nameAt k) o)))
+          (λ l. l);
+    }

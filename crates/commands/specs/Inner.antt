@@ -1,14 +1,10 @@
--- What the inner functions of the parser ensure. Assumes nothing.
-use mathlib.Core.Path.{_≡_}
+-- What the search for a name is stated with. Assumes nothing.
 use mathlib.Core.Bool.{cond}
-use mathlib.Core.List.{List, [], _∷_, _++_}
-use Prim.Native.Nat.{ℕ, suc, _-_}
-use lib.Dec.{eqb, ltb}
-use lib.ListN.{length, set, take, replicate}
-use Rattle.lists.specs.Lists.{all, over}
-use Rattle.commands.specs.declared.Scanned.{Scanned}
-use Rattle.commands.specs.Words.{blank, largest, valueOf, isNumber, leading}
-use Rattle.commands.specs.Commands.{mostNumbers, nameAt, opensWith}
+use mathlib.Core.List.{List, _++_}
+use Prim.Native.Nat.{ℕ, _-_, _≤_, _<_}
+use lib.ListN.{length, replicate}
+use Rattle.commands.specs.Words.{blank}
+use Rattle.commands.specs.Commands.{commandCount, nameAt, opensWith}
 
 -- the length of the name where the line opens with it, else 0
 unfoldable pub opened : List ℕ → List ℕ → ℕ
@@ -22,25 +18,7 @@ widest = 17
 unfoldable pub padded : ℕ → List ℕ
 padded k = nameAt k ++ replicate (widest - length (nameAt k)) blank
 
--- the bytes before the first blank
-unfoldable pub firstWord : List ℕ → List ℕ
-firstWord [] = []
-firstWord (c ∷ cs) = cond (eqb c blank) [] (c ∷ firstWord cs)
-
--- the value of a word that is a number, else one more than the largest
-unfoldable pub worth : List ℕ → ℕ
-worth w = cond (isNumber w) (valueOf w) (suc largest)
-
--- x stored as number i, where a line may have so many
-unfoldable pub stored : List ℕ → ℕ → ℕ → List ℕ
-stored xs i x = cond (ltb i mostNumbers) (set xs i x) xs
-
--- the place of the first word that is no number, from 1; 0 where every word is one
-unfoldable pub faultIn : List (List ℕ) → ℕ
-faultIn ws = cond (all isNumber ws) 0 (suc (length (leading ws)))
-
--- the words were read: how many numbers stand before the first that is none, its place, and as many numbers stored as a line may have
-pub record Scanning (ws : List (List ℕ)) (lent : List ℕ) (r : Scanned) (exit : List ℕ) : Type 0 where
-  pub seen : r .seen ≡ length (leading ws)
-  pub fault : r .fault ≡ faultIn ws
-  pub numbers : exit ≡ over (take mostNumbers (leading ws)) lent
+-- the line opens with the name of command k: it has that many bytes at the least
+pub record Opens (line : List ℕ) (k : ℕ) : Type 0 where
+  pub one : k < commandCount
+  pub long : length (nameAt k) ≤ length line

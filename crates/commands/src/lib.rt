@@ -1,12 +1,11 @@
 // What a clerk can ask for, in the laboratory's words: a tube is a vertex, a transfer a hyperedge.
 ghost use mathlib.Core.Path.{_≡_};
-ghost use Prim.Native.Nat.{_+_, _≤_, _<_};
-ghost use lib.ListN.{length, drop};
+ghost use Prim.Native.Nat.{_<_};
+ghost use lib.ListN.{length};
 ghost use Rattle.lists.specs.Lists.{sameList};
 ghost use Rattle.edits.specs.Results.{firstPassing};
-ghost use Rattle.commands.specs.Words.{wordsBehind};
-ghost use Rattle.commands.specs.Commands.{mostNumbers, commandCount, names, nameAt, named, Parsing};
-ghost use Rattle.commands.specs.Inner.{opened, padded, firstWord, worth, stored, Scanning};
+ghost use Rattle.commands.specs.Commands.{commandCount, names, nameAt, named};
+ghost use Rattle.commands.specs.Inner.{opened, padded};
 use layout::Found;
 use layout::HyperedgeIndex;
 use layout::VertexIndex;
@@ -76,15 +75,8 @@ pub enum Command {
 // As many numbers as a line may have.
 pub const MOST: usize = 1024;
 
-// How many commands there are, and the number of `help`.
+// How many commands there are.
 pub const COMMANDS: usize = 33;
-
-const HELP: usize = 31;
-
-// The largest number, and what stands for a word that is none.
-const LARGEST: usize = 4294967295;
-
-const NO_NUMBER: usize = LARGEST + 1;
 
 // The names, each with blanks behind it, and their lengths. A command's number is its place here.
 const NAMES: [[u8; 17]; COMMANDS] = [
@@ -209,7 +201,7 @@ fn padded_name(k: usize) -> [u8; 17]
     NAMES[k]
 }
 
-fn name_length(k: usize) -> usize
+pub fn name_length(k: usize) -> usize
     requires { ⌜ k < commandCount ⌝ }
     ensures { λ r. ⌜ r ≡ length (nameAt k) ⌝ }
 {
@@ -227,7 +219,7 @@ fn opening(k: usize, line: &[u8]) -> usize
 }
 
 // The number of the line's command: the first of the names that the line opens with.
-fn find_name(line: &[u8]) -> Found
+pub fn find_name(line: &[u8]) -> Found
     ensures { λ r. ⌜ r ≡ named (now (line .entry)) ⌝ }
 {
     let mut k = 0;
@@ -241,7 +233,7 @@ fn find_name(line: &[u8]) -> Found
 }
 
 // The number of the command whose name the bytes are.
-fn find_exact(bytes: &[u8]) -> Found
+pub fn find_exact(bytes: &[u8]) -> Found
     ensures { λ r. ⌜ r ≡ firstPassing (sameList (now (bytes .entry))) names ⌝ }
 {
     if bytes.len() == 0 {
@@ -255,92 +247,4 @@ fn find_exact(bytes: &[u8]) -> Found
         k += 1;
     }
     Found::Nothing
-}
-
-// The end of the word that begins at a place: the next blank, or the end of the line.
-fn word_end(line: &[u8], from: usize) -> usize
-    requires { ⌜ from ≤ length (now line) ⌝ }
-    ensures { λ r. ⌜ r ≡ from + length (firstWord (drop from (now (line .entry)))) ⌝ }
-{
-    let mut i = from;
-    while i < line.len() {
-        if line[i] == b' ' {
-            return i;
-        }
-        i += 1;
-    }
-    i
-}
-
-fn wide(c: u8) -> usize
-    ensures { λ r. ⌜ r ≡ c ⌝ }
-{
-    c as usize
-}
-
-// The value of a word, or what stands for no number.
-fn value(word: &[u8]) -> usize
-    ensures { λ r. ⌜ r ≡ worth (now (word .entry)) ⌝ }
-{
-    if word.len() == 0 {
-        return NO_NUMBER;
-    }
-    let mut n = 0;
-    let mut i = 0;
-    while i < word.len() {
-        let c = wide(word[i]);
-        if c < 48 {
-            return NO_NUMBER;
-        }
-        if 57 < c {
-            return NO_NUMBER;
-        }
-        n = n * 10 + (c - 48);
-        if LARGEST < n {
-            return NO_NUMBER;
-        }
-        i += 1;
-    }
-    n
-}
-
-// Number i of a line is stored, where the line may have so many.
-fn store(numbers: &mut [u32; MOST], i: usize, x: u32)
-    requires { ⌜ length (now numbers) ≡ mostNumbers ⌝ }
-    ensures { λ _. ⌜ now (numbers .exit) ≡ stored (now (numbers .entry)) i x ⌝ }
-{
-    if i < MOST {
-        numbers[i] = x;
-    }
-}
-
-// How many numbers stand before the first word that is none, and the place of that word, from 1; 0 where every word is a number.
-struct Scanned {
-    seen: usize,
-    fault: usize,
-}
-
-// Reads the words behind a name that ends at a place, and stores their numbers.
-fn scan(line: &[u8], start: usize, numbers: &mut [u32; MOST]) -> Scanned
-    requires { ⌜ length (now numbers) ≡ mostNumbers ⌝ }
-    requires { ⌜ start ≤ length (now line) ⌝ }
-    ensures { λ r. ⌜ Scanning (wordsBehind (drop start (now (line .entry)))) (now (numbers .entry)) r (now (numbers .exit)) ⌝ }
-{
-    let mut at = start;
-    let mut seen = 0;
-    while at < line.len() {
-        let from = at + 1;
-        let end = word_end(line, from);
-        let x = value(&line[from..end]);
-        if LARGEST < x {
-            return Scanned {
-                seen,
-                fault: seen + 1,
-            };
-        }
-        store(numbers, seen, x as u32);
-        seen += 1;
-        at = end;
-    }
-    Scanned { seen, fault: 0 }
 }

@@ -19,28 +19,20 @@ entryLines form t [] = []
 entryLines form t (v ∷ []) = []
 entryLines form t (v ∷ e ∷ ws) = filled form (v ∷ e ∷ hyperedgeWeight e t ∷ []) [] ++ entryLines form t ws
 
--- the lines of no path, the title with the first tube, and an entry; A is the first tube, B the last, M the cost
-unfoldable pub noPathForm : Bool → List ℕ
-noPathForm false = text "path A to B\n  none\n"
-noPathForm true = []
-
-unfoldable pub titleForm : Bool → List ℕ
-titleForm false = text "path A to B, cost M\n  tube A\n"
-titleForm true = text "M\nA\n"
-
-unfoldable pub entryForm : Bool → List ℕ
-entryForm false = text "  tube A   by transfer B   cost C\n"
-entryForm true = text "A B C\n"
-
--- the sheet of a best walk by its vertices after x; plain: numbers only
-unfoldable pub walkSheet : Bool → Table → ℕ → ℕ → Option (List ℕ) → List ℕ
-walkSheet plain t x y none = filled (noPathForm plain) (x ∷ y ∷ []) []
-walkSheet plain t x y (some l) =
+-- a best walk, by its vertices after x and by three forms: no walk, the cost with the first tube, and an entry; A is the first tube, B the
+-- last, M the cost
+unfoldable pub walkSheet : List ℕ → List ℕ → List ℕ → Table → ℕ → ℕ → Option (List ℕ) → List ℕ
+walkSheet unreached first entry t x y none = filled unreached (x ∷ y ∷ []) []
+walkSheet unreached first entry t x y (some l) =
     let cost = total (stepCost t) x l in
-    filled (titleForm plain) (x ∷ y ∷ low cost ∷ high cost ∷ []) [] ++ entryLines (entryForm plain) t (entriesAfter t x l)
+    filled first (x ∷ y ∷ low cost ∷ high cost ∷ []) [] ++ entryLines entry t (entriesAfter t x l)
 
-abbrev pub pathSheet : Bool → ℕ → ℕ → Table → List ℕ
-pathSheet plain x y t = walkSheet plain t x y (bestPath t x y)
+-- the best path from x to y; plain: numbers only
+unfoldable pub pathSheet : Bool → ℕ → ℕ → Table → List ℕ
+pathSheet false x y t =
+    walkSheet (text "path A to B\n  none\n") (text "path A to B, cost M\n  tube A\n") (text "  tube A   by transfer B   cost C\n") t x y
+    (bestPath t x y)
+pathSheet true x y t = walkSheet [] (text "M\nA\n") (text "A B C\n") t x y (bestPath t x y)
 
 -- a path on a page: 1, 3 for the first tube, 3 for the second
 unfoldable pub pathResult : Bool → ℕ → ℕ → Page → Table → Result

@@ -1,14 +1,14 @@
 -- What is found is a ring, and one is found exactly where a walk is closed. Assumes nothing.
-use mathlib.Core.Path.{_≡_, refl, sym, ap, _∙_, subst}
+use mathlib.Core.Path.{_≡_, refl, sym, ap, subst}
 use mathlib.Core.Bool.{Bool, true, false}
 use mathlib.Core.List.{List, [], _∷_}
-use Prim.Native.Nat.{ℕ, zero, suc, _+_, _-_, _≤_, _<_}
+use Prim.Native.Nat.{ℕ, zero, suc, _+_, _-_, _<_}
 use native.Mathlib.Nat.{not-suc-le-zero, lt-irrefl, le-of-suc-le-suc}
 use native.Mathlib.Omega.{arith}
 use lib.Dec.{ltb}
 use lib.ListN.{length, getD, take}
 use lib.Seq.{length-take-le, getD-take}
-use borrow.Author.Tests.{lt-ltb, le-ltb, ltb-false}
+use borrow.Author.Tests.{lt-ltb, le-ltb}
 use Rattle.lists.specs.Lists.{memb, Distinct}
 use Rattle.lists.specs.Inner.{Below}
 use Rattle.lists.proofs.Cases.{on, on-below}
@@ -34,10 +34,6 @@ ring-closed {R} {w} r =
     reach : (i : ℕ) → i < length w → Reach R (getD w 0 0) (getD w i 0)
     reach zero h = here
     reach (suc i) h = step (reach i (omega arith)) (r .steps i h)
-
--- a ring is as long as there are numbers, at most
-pub ring-short : {R : ℕ → ℕ → Type 0} {w : List ℕ} (n : ℕ) → Ring R w → Below n w → length w ≤ n
-ring-short {R} {w} n r b = pigeon w n (r .once) b
 
 module _ (E : ℕ → ℕ → Bool) (n : ℕ) where
   -- those passed, the latest first: each has a step to the next, and y to the latest

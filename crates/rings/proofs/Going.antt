@@ -1,16 +1,14 @@
 -- Going back: the numbers passed, as the path holds them, and what is left of the search. Assumes nothing.
-use mathlib.Core.Path.{_≡_, refl, sym, ap, _∙_, subst}
+use mathlib.Core.Path.{_≡_, refl, sym, ap, _∙_}
 use mathlib.Core.Bool.{Bool, true, false}
 use mathlib.Core.List.{List, [], _∷_}
-use Prim.Native.Nat.{ℕ, zero, suc, _+_, _-_, _≤_, _<_}
-use native.Mathlib.Nat.{not-suc-le-zero, lt-irrefl}
+use Prim.Native.Nat.{ℕ, suc, _+_, _-_, _≤_, _<_}
+use native.Mathlib.Nat.{not-suc-le-zero}
 use native.Mathlib.Omega.{arith}
-use lib.Dec.{ltb}
 use lib.ListN.{length, getD, take, drop, set, replicate, length-set, length-drop, length-replicate, drop-of-length-le}
 use lib.Seq.{drop-cons, drop-set-lt, getD-set-same, length-take-le}
 use borrow.Author.Tests.{lt-ltb, le-ltb}
-use Rattle.lists.specs.Lists.{memb, Distinct}
-use Rattle.lists.specs.Inner.{Below}
+use Rattle.lists.specs.Lists.{memb}
 use Rattle.lists.proofs.Cases.{on}
 use Rattle.lists.proofs.Count.{pigeon, room}
 use Rattle.lists.proofs.Parts.{part-ext}

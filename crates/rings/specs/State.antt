@@ -9,7 +9,7 @@ use Rattle.lists.specs.Inner.{Below}
 use Rattle.graph.specs.Bfs.{bfs}
 use Rattle.graph.specs.Held.{Marks}
 use Rattle.components.specs.Classes.{reached}
-use Rattle.rings.specs.Search.{before, comesBack, lowest, upThrough, goBack, ringFrom, ringOf}
+use Rattle.rings.specs.Search.{before, comesBack, lowest, upThrough, goBack, ringFrom}
 
 -- r says whether x lies on a closed walk, and the marks are those of what is reached from it
 pub record Tested (E : ℕ → ℕ → Bool) (n x : ℕ) (r : Bool) (marks : List ℕ) : Type 0 where

@@ -1,15 +1,18 @@
 -- Laws of lines: where a line ends, where the next one begins, and where line k does. Assumes nothing.
 use mathlib.Core.Path.{_≡_, refl, sym, ap, _∙_}
+use mathlib.Core.Bool.{true, false}
 use mathlib.Core.List.{List, [], _∷_, _++_, append-nil}
 use Prim.Native.Nat.{ℕ, zero, suc, _+_, _-_, _≤_, _<_}
 use native.Mathlib.Numerals.{add-one}
 use native.Mathlib.Omega.{arith}
-use lib.Dec.{eqb}
+use lib.Dec.{eqb, ltb}
 use lib.ListN.{length, getD, take, drop, length-drop, drop-of-length-le}
-use lib.Seq.{take-suc, drop-cons, drop-drop, getD-drop, append-snoc, length-take-le}
-use borrow.Author.Tests.{eq-eqb, ne-eqb}
-use Rattle.lists.proofs.Cases.{on}
-use Rattle.text_lines.specs.Lines.{firstLine, otherLines, lineAt, behind, Ends, Begins, Stands}
+use lib.Seq.{take-suc, drop-cons, drop-drop, getD-drop, getD-take, append-snoc, length-take-le}
+use borrow.Author.Tests.{eq-eqb, ne-eqb, lt-ltb, le-ltb}
+use Rattle.lists.specs.Tests.{_and_}
+use Rattle.lists.specs.Lists.{wordAt}
+use Rattle.lists.proofs.Cases.{on, and-false-left, and-false-right}
+use Rattle.text_lines.specs.Lines.{firstLine, otherLines, lineAt, behind, crLf, endsInCrLf, Ends, Begins, Stands}
 
 -- ---- the end of a line
 
@@ -63,12 +66,14 @@ others-are [] = refl
 others-are (c ∷ cs) = on (eqb c 10) (λ e. rw e) (λ e. rw e (others-are cs))
 
 module _ (text : List ℕ) (from end : ℕ) (e : Ends text from end) where
+  line-length : length (firstLine (drop from text)) ≡ end - from
+  line-length =
+      sym (ap length (e .line)) ∙ length-take-le (end - from) (drop from text) (rw length-drop (omega (arith, e .low, e .high)))
+
   others-from : otherLines (drop from text) ≡ drop (end + 1) text
   others-from =
-      let n : length (firstLine (drop from text)) ≡ end - from =
-      sym (ap length (e .line)) ∙ length-take-le (end - from) (drop from text) (rw length-drop (omega (arith, e .low, e .high))) in
       let p : from + suc (end - from) ≡ end + 1 = omega (arith, e .low) in
-      others-are (drop from text) ∙ rw n (drop-drop (suc (end - from)) from text ∙ rw p)
+      others-are (drop from text) ∙ rw line-length (drop-drop (suc (end - from)) from text ∙ rw p)
 
   pub begins-behind : end < length text → Begins text from (end + 1)
   begins-behind h = record { low = omega (arith, e .low); high = omega arith; rest = sym others-from }
@@ -126,3 +131,44 @@ behind-line (suc k) cs = behind-line k (otherLines cs)
 
 pub line-part : (text : List ℕ) (k from end : ℕ) → Stands text k from → Ends text from end → take (end - from) (drop from text) ≡ lineAt k text
 line-part text k from end s e = e .line ∙ ap firstLine (s .rest) ∙ behind-line k text
+
+-- ---- a line that ends in CR LF
+
+none-left : (cs : List ℕ) → length cs ≡ 0 → cs ≡ []
+none-left [] h = refl
+none-left (c ∷ cs) h = absurd (omega arith)
+
+pub no-line-zero : (text : List ℕ) (line : ℕ) → line ≡ 0 → false ≡ endsInCrLf line text
+unfolding endsInCrLf
+no-line-zero text line h = rw h
+
+-- the line is the first of what stands from its beginning on
+cr-lf-from : (text : List ℕ) (line from : ℕ) → (line ≡ 0 → ⊥) → Stands text (line - 1) from → endsInCrLf line text ≡ crLf (drop from text)
+unfolding endsInCrLf
+cr-lf-from text zero from ne s = absurd (ne refl)
+cr-lf-from text (suc i) from ne s =
+    let n : suc i - 1 ≡ i = omega arith in
+    ap crLf (sym (rw n at (s .rest)))
+
+module _ (text : List ℕ) (line from end : ℕ) (ne : line ≡ 0 → ⊥) (s : Stands text (line - 1) from) (e : Ends text from end) where
+  cr-lf-here : endsInCrLf line text ≡ ltb (end - from) (length text - from) and eqb (wordAt (firstLine (drop from text)) (end - from - 1)) 13
+  unfolding crLf
+  cr-lf-here = cr-lf-from text line from ne s ∙ rw (line-length text from end e, length-drop)
+
+  pub no-feed : end ≡ length text → false ≡ endsInCrLf line text
+  no-feed h = rw cr-lf-here (sym (and-false-left _ _ (le-ltb (end - from) (length text - from) (omega arith))))
+
+  pub no-byte : end ≡ from → false ≡ endsInCrLf line text
+  no-byte h =
+      let l : firstLine (drop from text) ≡ [] = none-left (firstLine (drop from text)) (line-length text from end e ∙ omega arith) in
+      rw (cr-lf-here, l) (sym (and-false-right _ _ refl))
+
+  pub last-byte : (end ≡ length text → ⊥) → (end ≡ from → ⊥) → eqb (getD text (end - 1) 0) 13 ≡ endsInCrLf line text
+  unfolding _and_
+  last-byte nf nb =
+      let l : end - from < length text - from = omega (arith, e .low, e .high) in
+      let i : end - from - 1 < end - from = omega (arith, e .low) in
+      let p : from + (end - from - 1) ≡ end - 1 = omega (arith, e .low) in
+      let b : wordAt (firstLine (drop from text)) (end - from - 1) ≡ getD text (end - 1) 0 =
+      rw (← e .line) (getD-take (end - from) (drop from text) (end - from - 1) 0 i ∙ getD-drop from text (end - from - 1) 0 ∙ rw p) in
+      rw (cr-lf-here, b, lt-ltb (end - from) (length text - from) l)

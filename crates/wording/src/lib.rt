@@ -57,7 +57,9 @@ fn wide_at(ns: &[u32], i: usize) -> u64
     requires { ⌜ i < 256 ⌝ }
     ensures { λ r. ⌜ r ≡ wideAt (now (ns .entry)) i ⌝ }
 {
-    word_at(ns, i) as u64 + 4294967296 * word_at(ns, i + 1) as u64
+    let low = word_at(ns, i);
+    let high = word_at(ns, i + 1);
+    low as u64 + 4294967296 * high as u64
 }
 
 // What a byte of a form stands for.
