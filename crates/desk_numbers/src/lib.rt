@@ -61,7 +61,7 @@ fn release_in_turn(t: &[u32], s: &mut [u32], numbers: &[u32]) -> Answer
 }
 
 // A copy of the states.
-fn copy_of(s: &[u32]) -> [u32; 256]
+pub fn copy_of(s: &[u32]) -> [u32; 256]
     requires { ⌜ length (now s) ≡ vertexLimit ⌝ }
     ensures { λ r. ⌜ r ≡ now (s .entry) ⌝ }
 {
