@@ -1,2 +1,3 @@
-pub mod Trays
-pub mod Turns
+pub mod Copies
+mod Trays
+mod Turns

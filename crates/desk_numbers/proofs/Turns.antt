@@ -1,15 +1,13 @@
 -- Releases in turn, one more at a time, and what they leave. Assumes nothing.
 use mathlib.Core.Path.{_≡_, refl, sym, ap, _∙_}
 use mathlib.Core.Bool.{Bool, true, false, not, cond}
-use mathlib.Core.List.{List, [], _∷_, _++_, append-nil}
+use mathlib.Core.List.{List, _∷_}
 use Prim.Native.Nat.{ℕ, _+_, _≤_, _<_}
 use native.Mathlib.Numerals.{add-one}
-use native.Mathlib.Omega.{arith}
 use lib.Dec.{eqb}
-use lib.ListN.{length, getD, drop, drop-of-length-le, length-append, length-drop}
+use lib.ListN.{length, getD, drop, drop-of-length-le}
 use lib.Seq.{drop-cons}
 use borrow.Author.Tests.{not-true, not-false}
-use Rattle.lists.specs.Lists.{over}
 use Rattle.lists.specs.Inner.{overAt}
 use Rattle.layout.specs.declared.VertexIndex.{VertexIndex}
 use Rattle.layout.specs.declared.Answer.{Answer}
@@ -19,6 +17,7 @@ use Rattle.layout.specs.Layout.{vertexLimit}
 use Rattle.layout.specs.Answers.{number, Result, result}
 use Rattle.desk.specs.Releases.{releaseResult}
 use Rattle.desk_numbers.specs.Numbers.{inTurn, allOrNone, releaseNumbersResult}
+use Rattle.desk_numbers.proofs.Copies.{copied}
 
 -- ---- the loop: what is left of the releases gives what all of them give
 
@@ -42,17 +41,6 @@ module _ (vs : List ℕ) (t : Table) (whole : Result) (ss : List ℕ) (i : ℕ) 
   unfolding inTurn
   turns-done h = rw (drop-of-length-le vs h) at inv
 
--- ---- words laid over all of the others
-
-over-all : (xs ws : List ℕ) → length (overAt 0 xs ws) ≡ length xs → overAt 0 xs ws ≡ xs
-unfolding overAt over
-over-all xs ws e =
-    let m : length ws ≤ length xs = omega (arith, e, length-append xs (drop (length xs) ws), length-drop (length xs) ws) in
-    ap (λ (r : List ℕ). xs ++ r) (drop-of-length-le ws m) ∙ append-nil xs
-
-pub copied : (xs ws r : List ℕ) → r ≡ overAt 0 xs ws → length xs ≡ vertexLimit → length r ≡ vertexLimit → r ≡ xs
-copied xs ws r e m l = e ∙ over-all xs ws (ap length (sym e) ∙ l ∙ sym m)
-
 -- ---- on a copy ss′ of the states ss `release_in_turn` answered a and left ss″; r is what `is_done` found
 
 module _ (vs ss : List ℕ) (t : Table) (ss′ : List ℕ) (a : Answer) (ss″ : List ℕ) (r : Bool)
@@ -69,4 +57,4 @@ module _ (vs ss : List ℕ) (t : Table) (ss′ : List ℕ) (a : Answer) (ss″ :
   unfolding releaseNumbersResult allOrNone
   all-released q exit s m l l″ =
       let z : eqb (number a) 0 ≡ true = sym er ∙ not-false r q in
-      rw (← turned, z) (ap (result a) (copied ss″ ss exit s l″ (m ∙ l)))
+      rw (← turned, z) (ap (result a) (copied vertexLimit ss″ ss exit s l″ (m ∙ l)))

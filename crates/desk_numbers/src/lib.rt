@@ -23,14 +23,14 @@ fn judge_numbers(t: &[u32], kind: u32, numbers: &[u32]) -> Tray
     ensures { λ r. ⌜ r ≡ trayOf (now (t .entry)) (map (ofKind kind) (now (numbers .entry))) ⌝ }
 {
     let mut tray = tray_marks::open_tray(t);
-    let mut i: usize = 0;
-    while i < numbers.len() {
+    let mut k: usize = 0;
+    while k < numbers.len() {
         let w = Withdrawal {
             kind,
-            number: numbers[i],
+            number: numbers[k],
         };
-        tray = tray_marks::judge_record(t, tray, i, w);
-        i += 1;
+        tray = tray_marks::judge_record(t, tray, k, w);
+        k += 1;
     }
     tray
 }
@@ -61,7 +61,7 @@ fn release_in_turn(t: &[u32], s: &mut [u32], numbers: &[u32]) -> Answer
 }
 
 // A copy of the states.
-fn copy_of(s: &[u32]) -> [u32; 256]
+pub fn copy_of(s: &[u32]) -> [u32; 256]
     requires { ⌜ length (now s) ≡ vertexLimit ⌝ }
     ensures { λ r. ⌜ r ≡ now (s .entry) ⌝ }
 {

@@ -1,5 +1,5 @@
 -- `desk_numbers::copy_of` meets its contract. Assumes nothing.
-use Rattle.desk_numbers.proofs.Turns.{copied}
+use Rattle.desk_numbers.proofs.Copies.{copied}
 use borrow.Author.Needs.{needs}
 use Rattle.desk_numbers.proofs.copy_of.Statement.{statement}
 use Rattle.desk_numbers.proofs.copy_of.Tie as tie

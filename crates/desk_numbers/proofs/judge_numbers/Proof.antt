@@ -11,10 +11,10 @@ use Rattle.desk_numbers.proofs.judge_numbers.Statement.{statement}
 use Rattle.desk_numbers.proofs.judge_numbers.Tie as tie
 
 abbrev Inv-loop : tie.InvT-loop
-Inv-loop t kind numbers tray₀ i₀ tray i = (i ≤ length numbers) × (tray ≡ trayOf t (take i (map (ofKind kind) numbers)))
+Inv-loop t kind numbers tray₀ k₀ tray k = (k ≤ length numbers) × (tray ≡ trayOf t (take k (map (ofKind kind) numbers)))
 
 abbrev μ-loop : tie.MeasureT-loop
-μ-loop t kind numbers tray₀ i₀ tray i = length numbers - i
+μ-loop t kind numbers tray₀ k₀ tray k = length numbers - k
 
 open-tray-requires : tie.Need-open-tray-requires Inv-loop μ-loop
 open-tray-requires c κs = search needs
@@ -31,8 +31,8 @@ shared-slice-read-t10 c = search needs
 judge-record-requires : tie.Need-judge-record-requires Inv-loop μ-loop
 judge-record-requires c κs = search judged-open
 
-add-i : tie.Need-add-i Inv-loop μ-loop
-add-i c = search needs
+add-k : tie.Need-add-k Inv-loop μ-loop
+add-k c = search needs
 
 loop-less : tie.Need-loop-less Inv-loop μ-loop
 loop-less c = search needs
@@ -54,7 +54,7 @@ judge-numbers-spec =
     mul-t7
     shared-slice-read-t10
     judge-record-requires
-    add-i
+    add-k
     loop-less
     loop-again
     returns)
