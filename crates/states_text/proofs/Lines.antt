@@ -3,7 +3,7 @@ use mathlib.Core.Path.{_≡_, refl, sym, ap, ap₂, _∙_}
 use mathlib.Core.Bool.{Bool, true, false}
 use mathlib.Core.List.{List, [], _∷_, _++_, append-assoc}
 use Prim.Native.Nat.{ℕ, zero, suc, _+_, _*_, _-_, _/_, _%_, _≤_, _<_}
-use native.Mathlib.Nat.{not-suc-le-zero, lt-irrefl}
+use native.Mathlib.Nat.{not-suc-le-zero, lt-irrefl, le-of-suc-le-suc}
 use native.Mathlib.Omega.{arith}
 use lib.Dec.{eqb, ltb}
 use lib.ListN.{length, take, drop, length-append}
@@ -41,16 +41,23 @@ lines-last (c ∷ d ∷ l) h e =
 
 -- ---- digits
 
-value-snoc : (v : ℕ) (cs : List ℕ) (c : ℕ) → valueFrom v (cs ++ (c ∷ [])) ≡ valueFrom v cs * 10 + (c - 48)
+pub value-snoc : (v : ℕ) (cs : List ℕ) (c : ℕ) → valueFrom v (cs ++ (c ∷ [])) ≡ valueFrom v cs * 10 + (c - 48)
 unfolding valueFrom
 value-snoc v [] c = refl
 value-snoc v (d ∷ cs) c = value-snoc (v * 10 + (d - 48)) cs c
 
 -- more digits make no smaller value
-pub value-grows : (v : ℕ) (cs : List ℕ) → v ≤ valueFrom v cs
+value-grows : (v : ℕ) (cs : List ℕ) → v ≤ valueFrom v cs
 unfolding valueFrom
 value-grows v [] = omega arith
 value-grows v (c ∷ cs) = omega (arith, value-grows (v * 10 + (c - 48)) cs)
+
+pub value-part : (v : ℕ) (cs : List ℕ) (a b : ℕ) → a ≤ b → valueFrom v (take a cs) ≤ valueFrom v (take b cs)
+unfolding valueFrom
+value-part v cs zero b h = value-grows v (take b cs)
+value-part v cs (suc a) zero h = absurd (not-suc-le-zero h)
+value-part v [] (suc a) (suc b) h = omega arith
+value-part v (c ∷ cs) (suc a) (suc b) h = value-part (v * 10 + (c - 48)) cs a b (le-of-suc-le-suc h)
 
 -- the numbers of at most k digits are those below it
 tens : ℕ → ℕ
