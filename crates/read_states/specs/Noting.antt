@@ -40,6 +40,7 @@ pub record Noting (t : Table) (text : List ℕ) (p low k : ℕ) (ss : List ℕ) 
   pub below : all (numberBelow low) past ≡ true
   pub left : faultyFrom low k (lines (drop p text)) ≡ faultyState text
   pub states : ss ≡ statesBy (stateSaid past) (liveVertices t)
+  pub sized : length ss ≡ vertexLimit
   pub within : p ≤ length text
   pub count : k ≤ p + 1
   pub some : 0 < k

@@ -9,6 +9,8 @@ use native.Mathlib.Omega.{arith}
 use lib.Dec.{eqb, leb, ltb}
 use lib.ListN.{length, getD, take, drop, replicate, length-replicate, length-drop, length-append}
 use lib.Seq.{take-suc, getD-drop, getD-take, length-take-le, take-append-seam}
+use mir.Syntax.{w64}
+use mir.Val.{Fits}
 use borrow.Author.Tests.{lt-ltb, le-ltb, ltb-true}
 use Rattle.lists.specs.Tests.{_and_}
 use Rattle.lists.specs.Lists.{sameList}
@@ -159,3 +161,23 @@ module _ (l : List ℕ) (low v : ℕ) (n : Numbered l v) where
     number = λ ne. number-found (λ w. ne (e ∙ w)) .0;
     word = λ ne. number-found (λ w. ne (e ∙ w)) .1;
   }
+
+-- what the verdict says of the line
+module _ {l : List ℕ} {low x v : ℕ} (j : Judged l low x v) where
+  pub judged-bad : x ≡ waiting → lineGood low l ≡ false
+  judged-bad e =
+      on (lineGood low l)
+      (λ g. clash g (waits-bad low l (ap (λ (b : Bool). cond b (lineState l) waiting) (sym g) ∙ sym (j .is) ∙ e)))
+      (λ g. g)
+
+  pub judged-good : (x ≡ waiting → ⊥) → lineGood low l ≡ true
+  judged-good ne = on (lineGood low l) (λ g. g) (λ g. absurd (ne (j .is ∙ ap (λ (b : Bool). cond b (lineState l) waiting) g)))
+
+  pub judged-state : (x ≡ waiting → ⊥) → x ≡ lineState l
+  judged-state ne = j .is ∙ ap (λ (b : Bool). cond b (lineState l) waiting) (judged-good ne)
+
+  pub judged-word : (x ≡ waiting → ⊥) → v < 4294967296
+  judged-word ne = j .word ne
+
+  pub judged-next : (x ≡ waiting → ⊥) → Fits w64 (v + 1)
+  judged-next ne = omega (arith, j .word ne)

@@ -51,7 +51,7 @@ module _ (l : List ℕ) (ls : List (List ℕ)) (v : ℕ) where
 
 -- ---- what good lines say
 
-said-none : (v : ℕ) → stateSaid [] v ≡ waiting
+pub said-none : (v : ℕ) → stateSaid [] v ≡ waiting
 unfolding stateSaid
 said-none v = refl
 
