@@ -29,7 +29,7 @@ unfoldable pub yesNo : Bool → List ℕ
 yesNo true = text "yes"
 yesNo false = text "no"
 
--- both counts and both next numbers, and whether the table is connected and can be sorted
+-- the numbers of a check: both counts, both next numbers, and whether the table is connected and can be sorted
 unfoldable pub checked : Table → List ℕ
 checked t =
     length (t .vertices) ∷ length (t .hyperedges) ∷ t .nextVertex ∷ t .nextHyperedge ∷ bit (connected t) ∷ bit (acyclic t) ∷ []
@@ -37,7 +37,7 @@ checked t =
 unfoldable pub checkSheet : Bool → Table → List ℕ
 checkSheet false t =
     filled (text "well formed: A tubes, B transfers, next tube C, next transfer D\n") (checked t) []
-    ++ (filled (text "  connected U\n") [] (yesNo (connected t)) ++ filled (text "  can be sorted U\n") [] (yesNo (acyclic t)))
+    ++ (filled (text "  connected U\n") (checked t) (yesNo (connected t)) ++ filled (text "  can be sorted U\n") (checked t) (yesNo (acyclic t)))
 checkSheet true t = filled (text "A B C D E F\n") (checked t) []
 
 -- ---- records; ss are the states
@@ -47,11 +47,13 @@ unfoldable pub transferForm : Bool → List ℕ
 transferForm false = text "transfer A   cost B   tubes "
 transferForm true = text "A B "
 
+-- both counts
+unfoldable pub countLine : Table → List ℕ
+countLine t = filled (text "A B\n") (length (t .vertices) ∷ length (t .hyperedges) ∷ []) []
+
 unfoldable pub showSheet : Bool → List ℕ → Table → List ℕ
 showSheet false ss t = tubeLines (text "none\n") (text "tube A   weight B\n") ss t ++ transferLines (transferForm false) t
-showSheet true ss t =
-    filled (text "A B\n") (length (t .vertices) ∷ length (t .hyperedges) ∷ []) []
-    ++ (tubeLines [] (text "A B\n") ss t ++ transferLines (transferForm true) t)
+showSheet true ss t = countLine t ++ (tubeLines [] (text "A B\n") ss t ++ transferLines (transferForm true) t)
 
 unfoldable pub tubeSheet : Bool → ℕ → List ℕ → Table → List ℕ
 tubeSheet false v ss t =
