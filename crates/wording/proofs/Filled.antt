@@ -1,21 +1,20 @@
 -- Laws of forms: what a byte stands for, and what is left of a form. Assumes nothing.
-use mathlib.Core.Path.{_≡_, refl, sym, _∙_}
+use mathlib.Core.Path.{_≡_, sym}
 use mathlib.Core.Bool.{true, false}
-use mathlib.Core.List.{List, [], _∷_, _++_}
-use Prim.Native.Nat.{ℕ, suc, _+_, _*_, _-_, _≤_, _<_}
+use mathlib.Core.List.{List}
+use Prim.Native.Nat.{ℕ, _+_, _*_, _-_, _≤_, _<_}
 use native.Mathlib.Numerals.{add-one}
 use native.Mathlib.Omega.{arith}
-use lib.Dec.{eqb, ltb, leb}
-use lib.ListN.{length, getD, drop, drop-of-length-le, List·getD-eq-default}
-use lib.Seq.{drop-cons}
+use lib.Dec.{ltb, leb}
+use lib.ListN.{length, List·getD-eq-default}
 use borrow.Author.Tests.{lt-ltb, le-ltb, le-leb, lt-leb, eq-eqb, ne-eqb}
 use Rattle.lists.specs.Tests.{_and_}
-use Rattle.lists.specs.Lists.{wordAt, flat}
+use Rattle.lists.specs.Lists.{wordAt}
 use Rattle.lists.proofs.Cases.{and-both, and-false-left, and-false-right}
 use Rattle.wording.specs.Texts.{decimal}
 use Rattle.wording.specs.Pages.{Page, page, writeByte, write}
 use Rattle.wording.specs.Forms.{within, wideAt, meant}
-use Rattle.wording.proofs.Writing.{one-byte, left-more}
+use Rattle.wording.proofs.Writing.{one-byte}
 
 -- ---- a word, or two
 
@@ -61,16 +60,3 @@ module _ (ns name : List ℕ) (c : ℕ) (p : Page) (e : List ℕ) (q : ℕ) wher
   pub meant-above : 85 ≤ c → (c ≡ 85 → ⊥) → page e q ≡ writeByte c p → page e q ≡ write (meant ns name c) p
   unfolding meant
   meant-above h ne w = rw (above 65 75 c (omega arith), above 75 85 c h, ne-eqb c 85 ne, one-byte) w
-
--- ---- a loop over xs: the texts of those that are left, written on the page as it is, give the page w
-
-module _ (w : Page) (f : ℕ → List ℕ) (xs b : List ℕ) (i r : ℕ) where
-  pub left-text : (c : List ℕ) (q : ℕ) → i < length xs → write (flat f (drop i xs)) (page b r) ≡ w → page c q ≡ write (f (getD xs i 0)) (page b r)
-      → write (flat f (drop (i + 1) xs)) (page c q) ≡ w
-  unfolding flat
-  left-text c q h e g =
-      rw (add-one i) (left-more w b c (f (getD xs i 0)) (flat f (drop (suc i) xs)) r q (rw (drop-cons xs i 0 h) at e) g)
-
-  pub left-no-text : length xs ≤ i → write (flat f (drop i xs)) (page b r) ≡ w → page b r ≡ w
-  unfolding flat write
-  left-no-text h e = rw (drop-of-length-le xs {i = i} h) at e

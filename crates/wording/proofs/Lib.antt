@@ -1,4 +1,3 @@
 pub mod Writing
 pub mod Numbers
 pub mod Filled
-pub mod Listed

@@ -9,9 +9,10 @@ use lib.Dec.{ltb}
 use lib.ListN.{length, getD, set, take, drop, length-set, drop-of-length-le, take-append-drop}
 use lib.Seq.{drop-cons, drop-length, length-take-le, take-all, take-take, take-append-seam}
 use borrow.Author.Tests.{lt-ltb, le-ltb}
-use Rattle.lists.specs.Lists.{over}
+use Rattle.lists.specs.Lists.{upTo, flat, over}
 use Rattle.lists.specs.Inner.{overAt}
 use Rattle.lists.proofs.Cases.{on, on-below}
+use Rattle.lists.proofs.Tab.{length-tab, drop-tab}
 use Rattle.lists.proofs.OverAt.{over-at-none, set-over-at, over-at-join}
 use Rattle.wording.specs.Pages.{Page, page, writeByte, write}
 
@@ -72,6 +73,29 @@ module _ (w : Page) where
   unfolding write
   left-none xs b i r h e = rw (drop-of-length-le xs {i = i} h) at e
 
+-- the texts of the xs from i on
+module _ (w : Page) (f : ℕ → List ℕ) (xs b : List ℕ) (i r : ℕ) where
+  pub left-text : (c : List ℕ) (q : ℕ) → i < length xs → write (flat f (drop i xs)) (page b r) ≡ w → page c q ≡ write (f (getD xs i 0)) (page b r)
+      → write (flat f (drop (i + 1) xs)) (page c q) ≡ w
+  unfolding flat
+  left-text c q h e g =
+      rw (add-one i) (left-more w b c (f (getD xs i 0)) (flat f (drop (suc i) xs)) r q (rw (drop-cons xs i 0 h) at e) g)
+
+  pub left-no-text : length xs ≤ i → write (flat f (drop i xs)) (page b r) ≡ w → page b r ≡ w
+  unfolding flat write
+  left-no-text h e = rw (drop-of-length-le xs {i = i} h) at e
+
+-- the texts of the numbers from i on, below n
+module _ (w : Page) (f : ℕ → List ℕ) (n : ℕ) (b : List ℕ) (i r : ℕ) where
+  pub left-number : (c : List ℕ) (q : ℕ) → i < n → write (flat f (drop i (upTo n))) (page b r) ≡ w → page c q ≡ write (f i) (page b r)
+      → write (flat f (drop (i + 1) (upTo n))) (page c q) ≡ w
+  unfolding flat
+  left-number c q h e g = left-more w b c (f i) (flat f (drop (i + 1) (upTo n))) r q (rw (drop-tab (λ (j : ℕ). j) n i h) at e) g
+
+  pub left-no-number : n ≤ i → write (flat f (drop i (upTo n))) (page b r) ≡ w → page b r ≡ w
+  unfolding flat write
+  left-no-number h e = rw (drop-of-length-le (upTo n) {i = i} (rw length-tab h)) at e
+
 -- a page that is written to the same end has the same length
 pub left-length : (xs ys b c : List ℕ) (r q : ℕ) → write xs (page b r) ≡ write ys (page c q) → length b ≡ length c
 left-length xs ys b c r q e = sym (write-length xs (page b r)) ∙ ap (λ (p : Page). length (p .bytes)) e ∙ write-length ys (page c q)
@@ -110,7 +134,7 @@ write-cut xs bytes h =
     let front : List ℕ = take (length bytes) xs in
     let n : length front ≡ length bytes = length-take-le (length bytes) xs h in
     let whole : write front (page bytes 0) ≡ page front (length bytes) =
-        write-within front bytes (le-of-eq n) ∙ rw (n, drop-length, append-nil) in
+    write-within front bytes (le-of-eq n) ∙ rw (n, drop-length, append-nil) in
     ap (λ (l : List ℕ). write l (page bytes 0)) (sym (take-append-drop (length bytes) xs))
     ∙ write-append front (drop (length bytes) xs) (page bytes 0) ∙ ap (write (drop (length bytes) xs)) whole
     ∙ write-end (drop (length bytes) xs) front (length bytes) (le-of-eq n)

@@ -1,8 +1,7 @@
 -- Forms: lines in which capital letters stand for numbers. Assumes nothing.
-use mathlib.Core.Path.{_≡_}
 use mathlib.Core.Bool.{Bool, cond}
 use mathlib.Core.List.{List, [], _∷_, _++_}
-use Prim.Native.Nat.{ℕ, zero, suc, _+_, _*_, _-_, _/_, _≤_, _<_}
+use Prim.Native.Nat.{ℕ, zero, suc, _+_, _*_, _-_, _/_}
 use lib.Dec.{eqb, ltb, leb}
 use lib.ListN.{length, take, drop}
 use Rattle.lists.specs.Tests.{_and_}
@@ -61,15 +60,6 @@ joined [] = []
 joined (n ∷ []) = decimal n
 joined (n ∷ m ∷ ns) = decimal n ++ (text " " ++ joined (m ∷ ns))
 
--- a blank, and a number
-unfoldable pub afterBlank : ℕ → List ℕ
-afterBlank n = text " " ++ decimal n
-
--- the numbers, or `none` for no number
-unfoldable pub numbersOr : List ℕ → List ℕ → List ℕ
-numbersOr none [] = none
-numbersOr none (n ∷ ns) = joined (n ∷ ns)
-
 -- an opening, then the numbers, or `none` for no number; and the line feed
 unfoldable pub numberLine : List ℕ → List ℕ → List ℕ → List ℕ
 numberLine opening none [] = opening ++ (none ++ text "\n")
@@ -86,10 +76,3 @@ listLines (suc fuel) first rest none (k ∷ ws) = numberLine first none (take k 
 -- the lists of ws: each takes a word at the least
 unfoldable pub listed : List ℕ → List ℕ → List ℕ → List ℕ → List ℕ
 listed first rest none ws = listLines (length ws) first rest none ws
-
--- the list whose count stands at place i ends at e: behind as many words as the count says, or at the end
-pub record ListEnd (ws : List ℕ) (i e : ℕ) : Type 0 where
-  pub ahead : i < e
-  pub inside : e ≤ length ws
-  pub words : take (e - (i + 1)) (drop (i + 1) ws) ≡ take (wordAt ws i) (drop (i + 1) ws)
-  pub others : drop e ws ≡ drop (wordAt ws i) (drop (i + 1) ws)

@@ -1,12 +1,11 @@
 -- `wording::put_form` meets its contract: what is left of the form, filled in and written on the page as it is, gives the page with all of it. Assumes nothing.
 use mathlib.Core.Path.{_≡_, refl}
-use Prim.Native.Nat.{_≤_, _-_}
+use Prim.Native.Nat.{_-_}
 use lib.ListN.{length, drop}
 use Rattle.lists.specs.Lists.{flat}
 use Rattle.wording.specs.Pages.{page, write}
 use Rattle.wording.specs.Forms.{meant, filled}
-use Rattle.wording.proofs.Writing.{left-length}
-use Rattle.wording.proofs.Filled.{left-text, left-no-text}
+use Rattle.wording.proofs.Writing.{left-text, left-no-text, left-length}
 use borrow.Author.Needs.{needs}
 use Rattle.wording.proofs.put_form.Statement.{statement}
 use Rattle.wording.proofs.put_form.Tie as tie

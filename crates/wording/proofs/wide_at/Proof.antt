@@ -7,14 +7,14 @@ use Rattle.wording.proofs.wide_at.Tie as tie
 word-at-requires : tie.Need-word-at-requires
 word-at-requires c κs = search needs
 
-cast-result : tie.Need-cast-result
-cast-result c = search needs
-
 add-word-at : tie.Need-add-word-at
 add-word-at c = search needs
 
 word-at-requires-2 : tie.Need-word-at-requires-2
 word-at-requires-2 c κs = search needs
+
+cast-result : tie.Need-cast-result
+cast-result c = search needs
 
 cast-result-2 : tie.Need-cast-result-2
 cast-result-2 c = search needs
@@ -33,9 +33,9 @@ wide-at-spec =
     tie.close
     (tie.spec
     word-at-requires
-    cast-result
     add-word-at
     word-at-requires-2
+    cast-result
     cast-result-2
     mul-result
     add-result
