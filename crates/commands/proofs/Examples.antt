@@ -13,7 +13,7 @@ use Rattle.commands.specs.declared.Change.the-variants.{Transfer}
 use Rattle.commands.specs.declared.Command.{Command}
 use Rattle.commands.specs.declared.Command.the-variants.{Ask, View, Make, Help, HelpOn, Unknown, NotNumber, WrongCount}
 use Rattle.commands.specs.Words.{onto, split, wordsBehind, isDigit, valueFrom, valueOf, isNumber, leading}
-use Rattle.commands.specs.Commands.{forms, names, formAt, opensWith, named, behindName, wordsBy, numbersOn, takes, asked, askedBy, helpBy, helpOn, commandBy, commandOn, tube}
+use Rattle.commands.specs.Commands.{forms, names, formAt, nameAt, endsAt, opensWith, named, behindName, wordsBy, numbersOn, takes, asked, askedBy, helpBy, helpOn, commandBy, commandOn, tube}
 
 -- a line, its command and its numbers
 pub record Example : Type 0 where
@@ -46,5 +46,5 @@ abbrev computed : Example → Example
 computed e = record { line = e .line; command = commandOn (e .line); numbers = numbersOn (e .line) }
 
 pub examples : map computed written ≡ written
-unfolding onto split wordsBehind isDigit valueFrom valueOf isNumber leading forms names formAt opensWith named behindName wordsBy numbersOn takes asked askedBy helpBy helpOn commandBy commandOn all sameList _and_ firstPassing firstPassingFrom
+unfolding onto split wordsBehind isDigit valueFrom valueOf isNumber leading forms names formAt nameAt endsAt opensWith named behindName wordsBy numbersOn takes asked askedBy helpBy helpOn commandBy commandOn all sameList _and_ firstPassing firstPassingFrom
 examples = refl

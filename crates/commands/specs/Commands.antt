@@ -1,6 +1,6 @@
 -- What a line of commands asks for: the table of commands, the command of a line and its numbers. Assumes nothing.
 use mathlib.Core.Path.{_≡_}
-use mathlib.Core.Bool.{Bool, cond}
+use mathlib.Core.Bool.{Bool, cond, _||_}
 use mathlib.Core.List.{List, [], _∷_, map}
 use Prim.Native.Nat.{ℕ, suc}
 use Prim.Native.String.{String}
@@ -82,6 +82,10 @@ forms =
     ∷ form "version" 0 0 (λ a b c. Version)
     ∷ []
 
+-- how many there are, and the number of help
+abbrev pub commandCount : ℕ
+commandCount = 33
+
 abbrev pub helpNumber : ℕ
 helpNumber = 31
 
@@ -93,11 +97,18 @@ names = map (λ f. f .name) forms
 unfoldable pub formAt : ℕ → Form
 formAt k = getD forms k (form "" 0 0 (λ a b c. Unknown))
 
+unfoldable pub nameAt : ℕ → List ℕ
+nameAt k = formAt k .name
+
 -- ---- the name of a line
 
--- the line begins with the bytes of the name, and then ends or has a blank; past its end a blank is read
+-- the line ends at place n, or has a blank there
+unfoldable pub endsAt : List ℕ → ℕ → Bool
+endsAt line n = leb (length line) n || eqb (wordAt line n) blank
+
+-- the line begins with the bytes of the name, and then ends or has a blank
 unfoldable pub opensWith : List ℕ → List ℕ → Bool
-opensWith line name = sameList (take (length name) line) name and eqb (getD line (length name) blank) blank
+opensWith line name = sameList (take (length name) line) name and endsAt line (length name)
 
 -- the number of the line's command: the first of the names that it opens with
 unfoldable pub named : List ℕ → Found
@@ -105,7 +116,7 @@ named line = firstPassing (opensWith line) names
 
 -- what follows the name of command k
 unfoldable pub behindName : ℕ → List ℕ → List ℕ
-behindName k line = drop (length (formAt k .name)) line
+behindName k line = drop (length (nameAt k)) line
 
 -- ---- the numbers of a line
 

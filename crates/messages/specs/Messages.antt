@@ -1,37 +1,74 @@
--- What is said of a line of commands that was not carried out. Assumes nothing.
-use mathlib.Core.Bool.{Bool, true, false, cond}
+-- What is said of a line of commands that was not carried out, and of a file that has a faulty line. Assumes nothing.
+use mathlib.Core.Bool.{Bool, true, false, cond, not}
 use mathlib.Core.List.{List, [], _∷_, _++_}
-use Prim.Native.Nat.{ℕ, suc, _/_, _%_}
-use lib.Dec.{eqb}
-use lib.ListN.{length}
-use Rattle.lists.specs.Lists.{wordAt}
+use Prim.Native.Nat.{ℕ}
 use Rattle.wording.specs.Texts.{text}
-use Rattle.wording.specs.Forms.{filled, joined}
-use Rattle.text_lines.specs.Lines.{lineAt}
+use Rattle.wording.specs.Forms.{filled}
 use Rattle.commands.specs.declared.Command.{Command}
-use Rattle.commands.specs.declared.Command.the-variants.{Make}
+use Rattle.commands.specs.declared.Command.the-variants.{Init, Ask, View, Make, Help, HelpOn, Version, Unknown, NotNumber, WrongCount, TooMany}
 use Rattle.commands.specs.declared.Change.{Change}
-use Rattle.commands.specs.declared.Change.the-variants.{WithdrawTransfers}
-use Rattle.messages.specs.Help.{helpOn}
+use Rattle.help_texts.specs.Help.{helpOn}
+use Rattle.causes.specs.Causes.{halves, cause, isChange, causeText}
+
+-- ---- how a message begins and ends
+
+-- the program; in a batch, the line too
+unfoldable pub opening : Bool → ℕ → List ℕ
+opening true line = text "vaultsorrel: "
+opening false line = filled (text "vaultsorrel: line A: ") (line ∷ []) []
+
+-- that nothing was changed, where something could have been
+unfoldable pub ending : Bool → List ℕ
+ending true = text "; nothing was changed\n"
+ending false = text "\n"
 
 -- ---- refusals
 
--- a line for each answer number from 0 on, then the lines of a transfer in a tray and of an order that stops short.
--- K is the detail, C the handed-in number at that place, D the place counted from 1, U the file
-unfoldable pub causes : List ℕ
-causes = text "done\nthe table is not well formed (1)\na transfer wants at least one tube (2)\ntube K is not in U (3)\ntransfer K is not in U (4)\ntransfer K has this list already (5)\na list of K tubes is too long (6)\nU has no room for one more (7)\nU has given out its last number (8)\nno order (9)\nfewer than two transfers (10)\nthe sheet is too long (11)\nU line K is faulty (12)\ntube K can't be merged into itself (13)\ntransfer K lists the two tubes side by side (14)\ntube C, place D of the tray, is not in U (15)\n(16)\ntube K is not reviewed (17)\ntube K is held: upstream tube K is not released (18)\nthe order fails at place D, tube C (19)\ntube K stands twice in a row (20)\ntransfer C, place D of the tray, is not in U (15)\nthe order stops short after K tubes (19)\n"
+unfoldable pub anyChange : Change → Bool
+anyChange m = true
 
--- the numbers that a cause can name: the detail in two words, the handed-in number at that place, the place counted from 1
-unfoldable pub named : ℕ → List ℕ → List ℕ
-named detail list = detail % 4294967296 ∷ detail / 4294967296 ∷ wordAt list detail ∷ suc detail % 4294967296 ∷ []
+-- a change, and any line of a batch, could have changed something
+unfoldable pub couldChange : Bool → Command → Bool
+couldChange single c = cond single (isChange anyChange c) true
 
--- the line of a refusal among the causes
-unfoldable pub causeNumber : Command → ℕ → ℕ → ℕ → ℕ
-causeNumber (Make WithdrawTransfers) count number detail = cond (eqb number 15) 21 number
-causeNumber c count number detail = cond (eqb number 19) (cond (eqb detail count) 22 19) number
+unfoldable pub refusalText : Bool → ℕ → Command → List ℕ → List ℕ → List ℕ → ℕ → ℕ → List ℕ
+refusalText single line c list name walk number detail =
+    opening single line ++ (causeText c list name walk number detail ++ ending (couldChange single c))
 
--- a closed walk: tubes that lead back to the first
-unfoldable pub walkText : List ℕ → List ℕ
-walkText [] = []
-walkText (v ∷ []) = filled (text ": tube A leads back to itself") (v ∷ []) []
-walkText (v ∷ w ∷ vs) = text ": tubes " ++ (joined (v ∷ w ∷ vs) ++ filled (text " lead back to A") (v ∷ []) [])
+-- ---- lines that are no command
+
+-- what is wrong, as a form in which U is the line itself
+unfoldable pub spoken : Bool → ℕ → List ℕ → List ℕ → List ℕ → List ℕ
+spoken single line form ns said = opening single line ++ (filled form ns said ++ ending (not single))
+
+-- word p is no number
+unfoldable pub numberText : Bool → ℕ → ℕ → List ℕ → List ℕ
+numberText single line p said =
+    spoken single line (text "argument K of 'U' is no number from 0 to 4294967295") (halves p []) said
+
+-- the usage of command k; its line in the help has its line feed
+unfoldable pub usageText : Bool → ℕ → ℕ → List ℕ
+usageText single line k = opening single line ++ (text "usage: vaultsorrel FILE " ++ helpOn k)
+
+unfoldable pub misuseText : Bool → ℕ → Command → List ℕ → List ℕ
+misuseText single line Unknown said = spoken single line (text "'U' is no command; help lists them") [] said
+misuseText single line (NotNumber p) said = numberText single line p said
+misuseText single line TooMany said = spoken single line (text "a line takes at most 1024 numbers") [] said
+misuseText single line Init said =
+    spoken single line (text "init makes a file that is not there yet, and stands first") [] said
+misuseText single line (WrongCount k) said = usageText single line k
+misuseText single line (Ask q) said = []
+misuseText single line (View l) said = []
+misuseText single line (Make m) said = []
+misuseText single line Help said = []
+misuseText single line (HelpOn k) said = []
+misuseText single line Version said = []
+
+-- ---- a file that has a faulty line
+
+unfoldable pub faultEnding : Bool → List ℕ
+faultEnding true = text ": it ends in CR LF\n"
+faultEnding false = text "\n"
+
+unfoldable pub faultyText : List ℕ → ℕ → Bool → List ℕ
+faultyText name line crlf = opening true 0 ++ (cause 12 line [] name ++ faultEnding crlf)

@@ -1,10 +1,12 @@
 -- The lines of a text. Assumes nothing.
 use mathlib.Core.Path.{_≡_}
-use mathlib.Core.Bool.{cond}
+use mathlib.Core.Bool.{Bool, false, cond}
 use mathlib.Core.List.{List, [], _∷_}
 use Prim.Native.Nat.{ℕ, zero, suc, _-_, _≤_}
-use lib.Dec.{eqb}
+use lib.Dec.{eqb, ltb}
 use lib.ListN.{length, take, drop}
+use Rattle.lists.specs.Tests.{_and_}
+use Rattle.lists.specs.Lists.{wordAt}
 
 abbrev pub lineFeed : ℕ
 lineFeed = 10
@@ -29,6 +31,17 @@ unfoldable pub behind : ℕ → List ℕ → List ℕ
 behind zero cs = cs
 behind (suc i) cs = behind i (otherLines cs)
 
+-- the first line has a line feed, and a carriage return right before it
+unfoldable pub crLf : List ℕ → Bool
+crLf cs =
+    let line = firstLine cs in
+    ltb (length line) (length cs) and eqb (wordAt line (length line - 1)) 13
+
+-- line i, counted from 1, ends in CR LF
+unfoldable pub endsInCrLf : ℕ → List ℕ → Bool
+endsInCrLf zero cs = false
+endsInCrLf (suc i) cs = crLf (behind i cs)
+
 -- the line that begins at a place of a text ends before `end`
 pub record Ends (text : List ℕ) (from end : ℕ) : Type 0 where
   pub low : from ≤ end
@@ -40,3 +53,8 @@ pub record Begins (text : List ℕ) (from next : ℕ) : Type 0 where
   pub low : from ≤ next
   pub high : next ≤ length text
   pub rest : drop next text ≡ otherLines (drop from text)
+
+-- line k begins at `from`
+pub record Stands (text : List ℕ) (k from : ℕ) : Type 0 where
+  pub high : from ≤ length text
+  pub rest : drop from text ≡ behind k text
