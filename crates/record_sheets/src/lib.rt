@@ -13,8 +13,8 @@ ghost use Rattle.record_sheets.specs.Inner.{lineWhere};
 use desk::REVIEWED;
 use desk::WAITING;
 use wording::put_form;
-use wording::put_line;
 use wording::put_text;
+use wording_lists::put_line;
 
 // A form whose name is that of a state.
 fn put_named(out: &mut [u8], at: usize, form: &[u8], ns: &[u32], state: u32) -> usize
@@ -30,14 +30,7 @@ fn put_named(out: &mut [u8], at: usize, form: &[u8], ns: &[u32], state: u32) -> 
 }
 
 // The tube of record i.
-pub fn put_tube(
-    t: &[u32],
-    s: &[u32],
-    i: usize,
-    form: &[u8],
-    out: &mut [u8],
-    at: usize,
-) -> usize
+pub fn put_tube(t: &[u32], s: &[u32], i: usize, form: &[u8], out: &mut [u8], at: usize) -> usize
     requires { ⌜ Formed limit (now t) ⌝ }
     requires { ⌜ (length (now s) ≡ vertexLimit) × (i < vertexCount (now t)) ⌝ }
     ensures { λ r. ⌜ page (now (out .exit)) r ≡ write (tubeLine (now (form .entry)) (now (s .entry)) (read limit (now (t .entry))) (vertexAt (now (t .entry)) i)) (page (now (out .entry)) at) ⌝ }
@@ -64,14 +57,7 @@ fn put_each_tube(t: &[u32], s: &[u32], form: &[u8], out: &mut [u8], at: usize) -
 }
 
 // Every tube, or `none` where there is none.
-pub fn put_tubes(
-    t: &[u32],
-    s: &[u32],
-    none: &[u8],
-    form: &[u8],
-    out: &mut [u8],
-    at: usize,
-) -> usize
+pub fn put_tubes(t: &[u32], s: &[u32], none: &[u8], form: &[u8], out: &mut [u8], at: usize) -> usize
     requires { ⌜ Formed limit (now t) ⌝ }
     requires { ⌜ length (now s) ≡ vertexLimit ⌝ }
     ensures { λ r. ⌜ page (now (out .exit)) r ≡ write (tubeLines (now (none .entry)) (now (form .entry)) (now (s .entry)) (read limit (now (t .entry)))) (page (now (out .entry)) at) ⌝ }
@@ -88,7 +74,10 @@ pub fn put_transfer(t: &[u32], j: usize, form: &[u8], out: &mut [u8], at: usize)
     requires { ⌜ j < hyperedgeCount (now t) ⌝ }
     ensures { λ r. ⌜ page (now (out .exit)) r ≡ write (transferLine (now (form .entry)) (hyperedgeAt limit (now (t .entry)) j)) (page (now (out .entry)) at) ⌝ }
 {
-    let ns = [layout::hyperedge_number(t, j), layout::hyperedge_weight(t, j)];
+    let ns = [
+        layout::hyperedge_number(t, j),
+        layout::hyperedge_weight(t, j),
+    ];
     let next = put_form(out, at, form, &ns, b"");
     put_line(out, next, b"", b"", layout::members_formed(t, j))
 }
