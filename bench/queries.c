@@ -11,6 +11,7 @@ static uint8_t text[ROOM];
 static const uint32_t pair[2] = {17, 18};
 
 #define V(n) ((vs_vertex){n})
+#define E(n) ((vs_hyperedge){n})
 
 #define ANSWER(what, table, expected, limit_ns, call)                 \
     do {                                                              \
@@ -76,8 +77,15 @@ int main(void) {
     QUERY("full_vertex_hyperedges", 15000, vs_get_full_vertex_hyperedges(full, WORDS, V(100), out, ROOM));
     QUERY("vertex_index", 8000, vs_get_vertex_index(full, WORDS, 500, out, ROOM));
     QUERY("contains_vertex", 8000, vs_contains_vertex(full, WORDS, 500));
+    QUERY("vertex_weight", 8000, vs_get_vertex_weight(full, WORDS, V(100)));
+    QUERY("hyperedge_weight", 8000, vs_get_hyperedge_weight(full, WORDS, E(100)));
+    QUERY("hyperedge_vertices", 8000, vs_get_hyperedge_vertices(full, WORDS, E(100), out, ROOM));
+    QUERY("vertices", 8000, vs_get_vertices(full, WORDS, out, ROOM));
+    QUERY("hyperedges", 8000, vs_get_hyperedges(full, WORDS, out, ROOM));
     QUERY("is_reachable", 80000, vs_is_reachable(full, WORDS, V(0), V(255)));
     QUERY("bfs", 80000, vs_get_bfs(full, WORDS, V(0), out, ROOM));
+    QUERY("upstream_vertices", 80000, vs_get_upstream_vertices(full, WORDS, V(100), out, ROOM));
+    QUERY("downstream_vertices", 80000, vs_get_downstream_vertices(full, WORDS, V(100), out, ROOM));
     ANSWER("topological_sort", "full, dense, lists ascending", 0, 120000, vs_topological_sort(ascending, WORDS, out, ROOM));
     ANSWER("topological_sort, refused", "full, dense numbers", 9, 120000, vs_topological_sort(full, WORDS, out, ROOM));
     ANSWER("is_acyclic", "full, dense, lists ascending", 0, 120000, vs_is_acyclic(ascending, WORDS));

@@ -50,9 +50,16 @@ enum { VERTEX = 1, HYPEREDGE = 2, WEIGHT = 4, SECOND = 8, MEMBERS_LIST = 16, HYP
     F(contains_vertex, WEIGHT, (T, a->x))                                                                   \
     F(get_vertex_neighborhood, VERTEX | OUT, (T, X, O))                                                     \
     F(get_vertex_index, WEIGHT | OUT, (T, a->x, O))                                                         \
+    F(get_vertex_weight, VERTEX, (T, X))                                                                    \
+    F(get_hyperedge_weight, HYPEREDGE, (T, E))                                                              \
+    F(get_hyperedge_vertices, HYPEREDGE | OUT, (T, E, O))                                                   \
+    F(get_vertices, OUT, (T, O))                                                                            \
+    F(get_hyperedges, OUT, (T, O))                                                                          \
     F(get_bfs, VERTEX | OUT, (T, X, O))                                                                     \
     F(get_dfs, VERTEX | OUT, (T, X, O))                                                                     \
     F(is_reachable, VERTEX | SECOND, (T, X, Y))                                                             \
+    F(get_upstream_vertices, VERTEX | OUT, (T, X, O))                                                       \
+    F(get_downstream_vertices, VERTEX | OUT, (T, X, O))                                                     \
     F(is_connected, 0, (T))                                                                                 \
     F(is_acyclic, 0, (T))                                                                                   \
     F(get_transitive_closure, OUT, (T, O))                                                                  \

@@ -439,6 +439,40 @@ static void judge_get_vertex_index(const content *c, const arguments *a, verdict
             put(v, c->vertex[i]);
 }
 
+/* ---- Plain reads */
+
+static void judge_get_vertex_weight(const content *c, const arguments *a, verdict *v) {
+    int x = live_vertex(c, a->x, v);
+    if (x >= 0)
+        say(v, 0, c->vertex_weight[x]);
+}
+
+static void judge_get_hyperedge_weight(const content *c, const arguments *a, verdict *v) {
+    int j = live_hyperedge(c, a->x, v);
+    if (j >= 0)
+        say(v, 0, c->weight[j]);
+}
+
+static void judge_get_hyperedge_vertices(const content *c, const arguments *a, verdict *v) {
+    int j = live_hyperedge(c, a->x, v);
+    if (j < 0)
+        return;
+    EACH(i, c->count[j])
+        put(v, c->vertex[c->member[j][i]]);
+}
+
+static void judge_get_vertices(const content *c, const arguments *a, verdict *v) {
+    (void)a;
+    EACH(i, c->n)
+        put(v, c->vertex[i]);
+}
+
+static void judge_get_hyperedges(const content *c, const arguments *a, verdict *v) {
+    (void)a;
+    EACH(j, c->m)
+        put(v, c->hyperedge[j]);
+}
+
 /* ---- Traversal. Steps stand in a matrix by place. */
 
 static bool step[MOST_VERTICES][MOST_VERTICES];
@@ -501,6 +535,33 @@ static void judge_is_reachable(const content *c, const arguments *a, verdict *v)
     go_breadth_first(c, x);
     say(v, 0, seen[y]);
 }
+
+/* Every step the other way round. */
+static void turn_steps(const content *c) {
+    EACH(x, c->n)
+        EACH(y, x) {
+            bool back = step[y][x];
+            step[y][x] = step[x][y];
+            step[x][y] = back;
+        }
+}
+
+static void judge_reached(const content *c, const arguments *a, verdict *v, bool turned) {
+    int x = live_vertex(c, a->x, v);
+    if (x < 0)
+        return;
+    find_steps(c);
+    if (turned)
+        turn_steps(c);
+    go_breadth_first(c, x);
+    EACH(y, c->n)
+        if (y != x && seen[y])
+            put(v, c->vertex[y]);
+}
+
+static void judge_get_upstream_vertices(const content *c, const arguments *a, verdict *v) { judge_reached(c, a, v, true); }
+
+static void judge_get_downstream_vertices(const content *c, const arguments *a, verdict *v) { judge_reached(c, a, v, false); }
 
 /* ---- Structure */
 

@@ -27,8 +27,8 @@
  *   19  the order is not accepted                       detail: the place at fault, from 0, or the order's length
  *   20  the member list has two equal neighbours        detail: the first member that equals the one after it
  *
- * Where a call is done, the detail is the number given (adds), 1 or 0 (yes or no), the count (degrees), the state (vs_desk_state),
- * the words or bytes written (listings), else 0. A listing is written from the front of the slice, and the rest of the slice is kept.
+ * Where a call is done, the detail is the number given (adds), 1 or 0 (yes or no), the count (degrees), the weight, the state
+ * (vs_desk_state), the words or bytes written (listings), else 0. A listing is written from the front of the slice, and the rest of the slice is kept.
  *
  * A call needs at most 192 KiB of stack (measured and added up from the frames: 155 KiB, bench/stack) and no other memory.
  */
@@ -141,6 +141,24 @@ vs_reply vs_get_vertex_neighborhood(const uint32_t *table, size_t table_words, v
 /* The vertices of the weight. Refusals 1, 11. */
 vs_reply vs_get_vertex_index(const uint32_t *table, size_t table_words, uint32_t weight, uint32_t *out, size_t out_words);
 
+/* ---- Plain reads */
+
+/* The vertex's weight. Refusals 1, 3. */
+vs_reply vs_get_vertex_weight(const uint32_t *table, size_t table_words, vs_vertex vertex);
+
+/* The hyperedge's weight. Refusals 1, 4. */
+vs_reply vs_get_hyperedge_weight(const uint32_t *table, size_t table_words, vs_hyperedge hyperedge);
+
+/* The hyperedge's members in their order, each as often as it is listed. Refusals 1, 4, 11. */
+vs_reply vs_get_hyperedge_vertices(const uint32_t *table, size_t table_words, vs_hyperedge hyperedge, uint32_t *out,
+                                   size_t out_words);
+
+/* Every live vertex, ascending. Refusals 1, 11. */
+vs_reply vs_get_vertices(const uint32_t *table, size_t table_words, uint32_t *out, size_t out_words);
+
+/* Every live hyperedge, ascending. Refusals 1, 11. */
+vs_reply vs_get_hyperedges(const uint32_t *table, size_t table_words, uint32_t *out, size_t out_words);
+
 /* ---- Traversal */
 
 /* What is reached from the vertex, breadth first; depth first in preorder. Smallest neighbour first. Refusals 1, 3, 11. */
@@ -149,6 +167,11 @@ vs_reply vs_get_dfs(const uint32_t *table, size_t table_words, vs_vertex vertex,
 
 /* Whether steps lead from one to the other; true of a vertex and itself. Refusals 1, 3 for the first, 3 for the second. */
 vs_reply vs_is_reachable(const uint32_t *table, size_t table_words, vs_vertex from, vs_vertex to);
+
+/* Every other vertex from which steps lead to the vertex; to which they lead from it. Ascending; the vertex itself is not listed.
+ * Refusals 1, 3, 11. */
+vs_reply vs_get_upstream_vertices(const uint32_t *table, size_t table_words, vs_vertex vertex, uint32_t *out, size_t out_words);
+vs_reply vs_get_downstream_vertices(const uint32_t *table, size_t table_words, vs_vertex vertex, uint32_t *out, size_t out_words);
 
 /* ---- Structure */
 

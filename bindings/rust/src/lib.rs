@@ -258,9 +258,34 @@ mod c {
             out_words: usize,
         ) -> Reply;
         pub fn vs_get_vertex_index(table: *const u32, table_words: usize, weight: u32, out: *mut u32, out_words: usize) -> Reply;
+        pub fn vs_get_vertex_weight(table: *const u32, table_words: usize, vertex: Vertex) -> Reply;
+        pub fn vs_get_hyperedge_weight(table: *const u32, table_words: usize, hyperedge: Hyperedge) -> Reply;
+        pub fn vs_get_hyperedge_vertices(
+            table: *const u32,
+            table_words: usize,
+            hyperedge: Hyperedge,
+            out: *mut u32,
+            out_words: usize,
+        ) -> Reply;
+        pub fn vs_get_vertices(table: *const u32, table_words: usize, out: *mut u32, out_words: usize) -> Reply;
+        pub fn vs_get_hyperedges(table: *const u32, table_words: usize, out: *mut u32, out_words: usize) -> Reply;
         pub fn vs_get_bfs(table: *const u32, table_words: usize, vertex: Vertex, out: *mut u32, out_words: usize) -> Reply;
         pub fn vs_get_dfs(table: *const u32, table_words: usize, vertex: Vertex, out: *mut u32, out_words: usize) -> Reply;
         pub fn vs_is_reachable(table: *const u32, table_words: usize, from: Vertex, to: Vertex) -> Reply;
+        pub fn vs_get_upstream_vertices(
+            table: *const u32,
+            table_words: usize,
+            vertex: Vertex,
+            out: *mut u32,
+            out_words: usize,
+        ) -> Reply;
+        pub fn vs_get_downstream_vertices(
+            table: *const u32,
+            table_words: usize,
+            vertex: Vertex,
+            out: *mut u32,
+            out_words: usize,
+        ) -> Reply;
         pub fn vs_is_connected(table: *const u32, table_words: usize) -> Reply;
         pub fn vs_is_acyclic(table: *const u32, table_words: usize) -> Reply;
         pub fn vs_get_transitive_closure(table: *const u32, table_words: usize, out: *mut u32, out_words: usize) -> Reply;
@@ -557,6 +582,36 @@ pub fn get_vertex_index(table: &[u32], weight: u32, out: &mut [u32]) -> Answer {
     unsafe { c::vs_get_vertex_index(table.as_ptr(), table.len(), weight, out.as_mut_ptr(), out.len()) }.answer()
 }
 
+/// The weight of the vertex.
+pub fn get_vertex_weight(table: &[u32], vertex: Vertex) -> Answer {
+    // The pointers and counts are those of slices that live and do not overlap for the time of the call.
+    unsafe { c::vs_get_vertex_weight(table.as_ptr(), table.len(), vertex) }.answer()
+}
+
+/// The weight of the hyperedge.
+pub fn get_hyperedge_weight(table: &[u32], hyperedge: Hyperedge) -> Answer {
+    // The pointers and counts are those of slices that live and do not overlap for the time of the call.
+    unsafe { c::vs_get_hyperedge_weight(table.as_ptr(), table.len(), hyperedge) }.answer()
+}
+
+/// The members of the hyperedge, in their order.
+pub fn get_hyperedge_vertices(table: &[u32], hyperedge: Hyperedge, out: &mut [u32]) -> Answer {
+    // The pointers and counts are those of slices that live and do not overlap for the time of the call.
+    unsafe { c::vs_get_hyperedge_vertices(table.as_ptr(), table.len(), hyperedge, out.as_mut_ptr(), out.len()) }.answer()
+}
+
+/// Every live vertex, ascending.
+pub fn get_vertices(table: &[u32], out: &mut [u32]) -> Answer {
+    // The pointers and counts are those of slices that live and do not overlap for the time of the call.
+    unsafe { c::vs_get_vertices(table.as_ptr(), table.len(), out.as_mut_ptr(), out.len()) }.answer()
+}
+
+/// Every live hyperedge, ascending.
+pub fn get_hyperedges(table: &[u32], out: &mut [u32]) -> Answer {
+    // The pointers and counts are those of slices that live and do not overlap for the time of the call.
+    unsafe { c::vs_get_hyperedges(table.as_ptr(), table.len(), out.as_mut_ptr(), out.len()) }.answer()
+}
+
 /// What is reached from the vertex, breadth first.
 pub fn get_bfs(table: &[u32], vertex: Vertex, out: &mut [u32]) -> Answer {
     // The pointers and counts are those of slices that live and do not overlap for the time of the call.
@@ -573,6 +628,18 @@ pub fn get_dfs(table: &[u32], vertex: Vertex, out: &mut [u32]) -> Answer {
 pub fn is_reachable(table: &[u32], from: Vertex, to: Vertex) -> Answer {
     // The pointers and counts are those of slices that live and do not overlap for the time of the call.
     unsafe { c::vs_is_reachable(table.as_ptr(), table.len(), from, to) }.answer()
+}
+
+/// Every other vertex from which steps lead to the vertex, ascending.
+pub fn get_upstream_vertices(table: &[u32], vertex: Vertex, out: &mut [u32]) -> Answer {
+    // The pointers and counts are those of slices that live and do not overlap for the time of the call.
+    unsafe { c::vs_get_upstream_vertices(table.as_ptr(), table.len(), vertex, out.as_mut_ptr(), out.len()) }.answer()
+}
+
+/// Every other vertex to which steps lead from the vertex, ascending.
+pub fn get_downstream_vertices(table: &[u32], vertex: Vertex, out: &mut [u32]) -> Answer {
+    // The pointers and counts are those of slices that live and do not overlap for the time of the call.
+    unsafe { c::vs_get_downstream_vertices(table.as_ptr(), table.len(), vertex, out.as_mut_ptr(), out.len()) }.answer()
 }
 
 /// 1 where the table is empty or all vertices are linked, else 0.

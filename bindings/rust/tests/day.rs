@@ -66,6 +66,47 @@ fn equal_neighbours_are_refused_and_read() {
 }
 
 #[test]
+fn a_table_is_read_back() {
+    let mut table = vec![0; TABLE_WORDS];
+    for weight in 0..6 {
+        add_vertex(&mut table, 10 + weight).unwrap();
+    }
+    for list in [&[5, 3, 5][..], &[3, 1], &[1, 3], &[0, 5]] {
+        add_hyperedge(&mut table, list, 7).unwrap();
+    }
+    remove_vertex(&mut table, Vertex(2)).unwrap();
+    remove_hyperedge(&mut table, Hyperedge(1)).unwrap();
+    assert_eq!(get_vertex_weight(&table, Vertex(5)), Ok(15));
+    assert_eq!(get_vertex_weight(&table, Vertex(2)), Err(Refusal::VertexNotLive(Vertex(2))));
+    assert_eq!(get_hyperedge_weight(&table, Hyperedge(3)), Ok(7));
+    assert_eq!(get_hyperedge_weight(&table, Hyperedge(1)), Err(Refusal::HyperedgeNotLive(Hyperedge(1))));
+
+    let mut out = [9; 6];
+    assert_eq!(get_vertices(&table, &mut out), Ok(5));
+    assert_eq!(out, [0, 1, 3, 4, 5, 9]);
+    assert_eq!(get_hyperedges(&table, &mut out), Ok(3));
+    assert_eq!(out, [0, 2, 3, 4, 5, 9]);
+    assert_eq!(get_hyperedge_vertices(&table, Hyperedge(0), &mut out), Ok(3));
+    assert_eq!(out, [5, 3, 5, 4, 5, 9]);
+    assert_eq!(get_hyperedge_vertices(&table, Hyperedge(1), &mut out), Err(Refusal::HyperedgeNotLive(Hyperedge(1))));
+
+    // Steps: 5 to 3, 3 to 5, 1 to 3, 0 to 5.
+    assert_eq!(get_upstream_vertices(&table, Vertex(3), &mut out), Ok(3));
+    assert_eq!(out[..3], [0, 1, 5]);
+    assert_eq!(get_downstream_vertices(&table, Vertex(3), &mut out), Ok(1));
+    assert_eq!(out[..1], [5]);
+    assert_eq!(get_upstream_vertices(&table, Vertex(4), &mut out), Ok(0));
+    assert_eq!(get_downstream_vertices(&table, Vertex(2), &mut out), Err(Refusal::VertexNotLive(Vertex(2))));
+
+    let mut short = [9; 2];
+    assert_eq!(get_vertices(&table, &mut short), Err(Refusal::NoRoom(5)));
+    assert_eq!(get_hyperedge_vertices(&table, Hyperedge(0), &mut short), Err(Refusal::NoRoom(3)));
+    assert_eq!(get_upstream_vertices(&table, Vertex(3), &mut short), Err(Refusal::NoRoom(3)));
+    assert_eq!(short, [9; 2]);
+    assert_eq!(get_hyperedges(&[1, 2, 3], &mut short), Err(Refusal::NotWellFormed));
+}
+
+#[test]
 fn two_vertices_are_merged() {
     let mut table = vec![0; TABLE_WORDS];
     for weight in 0..4 {

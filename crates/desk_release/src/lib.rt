@@ -84,7 +84,7 @@ fn release_live(t: &[u32], s: &mut [u32], v: VertexIndex, i: usize) -> Answer
     release_reviewed(t, s, v, i)
 }
 
-fn release_formed(t: &[u32], s: &mut [u32], v: VertexIndex) -> Answer
+pub fn release_formed(t: &[u32], s: &mut [u32], v: VertexIndex) -> Answer
     requires { ⌜ Formed limit (now t) ⌝ }
     requires { ⌜ length (now s) ≡ vertexLimit ⌝ }
     ensures { λ r. ⌜ result r (now (s .exit)) ≡ releaseResult (v .0) (now (s .entry)) (read limit (now (t .entry))) ⌝ }

@@ -1,2 +1,2 @@
-mod Carried
+pub mod Carried
 pub mod Values

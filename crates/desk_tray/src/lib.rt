@@ -9,7 +9,7 @@ use tray_marks::Tray;
 use trays::Withdrawal;
 
 // Refuses, or takes out what is marked; the states follow their vertices.
-fn carry_out_at_desk(t: &mut [u32], s: &mut [u32], tray: Tray) -> Answer
+pub fn carry_out_at_desk(t: &mut [u32], s: &mut [u32], tray: Tray) -> Answer
     requires { ⌜ Judged tray (now t) ⌝ }
     ensures { λ r. ⌜ outcome r (deskOf (now (t .exit)) (now (s .exit))) ≡ edited (carriedOut tray (now (t .entry))) (deskOf (now (t .entry)) (now (s .entry))) ⌝ }
 {

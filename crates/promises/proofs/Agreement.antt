@@ -62,12 +62,26 @@ use Rattle.adjacent.proofs.get_vertex_neighborhood.Kinds as get-vertex-neighbor
 use Rattle.adjacent.proofs.get_vertex_neighborhood.Reads as get-vertex-neighborhood-reads
 use Rattle.vertex_weights.proofs.get_vertex_index.Kinds as get-vertex-index
 use Rattle.vertex_weights.proofs.get_vertex_index.Reads as get-vertex-index-reads
+use Rattle.reads.proofs.get_vertex_weight.Kinds as get-vertex-weight
+use Rattle.reads.proofs.get_vertex_weight.Reads as get-vertex-weight-reads
+use Rattle.reads.proofs.get_hyperedge_weight.Kinds as get-hyperedge-weight
+use Rattle.reads.proofs.get_hyperedge_weight.Reads as get-hyperedge-weight-reads
+use Rattle.reads.proofs.get_hyperedge_vertices.Kinds as get-hyperedge-vertices
+use Rattle.reads.proofs.get_hyperedge_vertices.Reads as get-hyperedge-vertices-reads
+use Rattle.reads.proofs.get_vertices.Kinds as get-vertices
+use Rattle.reads.proofs.get_vertices.Reads as get-vertices-reads
+use Rattle.reads.proofs.get_hyperedges.Kinds as get-hyperedges
+use Rattle.reads.proofs.get_hyperedges.Reads as get-hyperedges-reads
 use Rattle.traversal.proofs.get_bfs.Kinds as get-bfs
 use Rattle.traversal.proofs.get_bfs.Reads as get-bfs-reads
 use Rattle.traversal.proofs.get_dfs.Kinds as get-dfs
 use Rattle.traversal.proofs.get_dfs.Reads as get-dfs-reads
 use Rattle.traversal.proofs.is_reachable.Kinds as is-reachable
 use Rattle.traversal.proofs.is_reachable.Reads as is-reachable-reads
+use Rattle.reached_vertices.proofs.get_upstream_vertices.Kinds as get-upstream-vertices
+use Rattle.reached_vertices.proofs.get_upstream_vertices.Reads as get-upstream-vertices-reads
+use Rattle.reached_vertices.proofs.get_downstream_vertices.Kinds as get-downstream-vertices
+use Rattle.reached_vertices.proofs.get_downstream_vertices.Reads as get-downstream-vertices-reads
 use Rattle.component_listings.proofs.is_connected.Kinds as is-connected
 use Rattle.component_listings.proofs.is_connected.Reads as is-connected-reads
 use Rattle.topological_sort.proofs.is_acyclic.Kinds as is-acyclic
@@ -192,6 +206,23 @@ get-vertex-neighborhood-agrees κs args a b x y p q = agree _ p q
 pub get-vertex-index-agrees : Agrees 2 get-vertex-index.ps get-vertex-index.r get-vertex-index-reads.Post (λ _ x. now (x .1 .1 .0))
 get-vertex-index-agrees κs args a b x y p q = agree _ p q
 
+-- ---- plain reads
+
+pub get-vertex-weight-agrees : Agrees 1 get-vertex-weight.ps get-vertex-weight.r get-vertex-weight-reads.Post (λ _ _. [])
+get-vertex-weight-agrees κs args a b x y p q = agree _ p q
+
+pub get-hyperedge-weight-agrees : Agrees 1 get-hyperedge-weight.ps get-hyperedge-weight.r get-hyperedge-weight-reads.Post (λ _ _. [])
+get-hyperedge-weight-agrees κs args a b x y p q = agree _ p q
+
+pub get-hyperedge-vertices-agrees : Agrees 2 get-hyperedge-vertices.ps get-hyperedge-vertices.r get-hyperedge-vertices-reads.Post (λ _ x. now (x .1 .1 .0))
+get-hyperedge-vertices-agrees κs args a b x y p q = agree _ p q
+
+pub get-vertices-agrees : Agrees 2 get-vertices.ps get-vertices.r get-vertices-reads.Post (λ _ x. now (x .1 .0))
+get-vertices-agrees κs args a b x y p q = agree _ p q
+
+pub get-hyperedges-agrees : Agrees 2 get-hyperedges.ps get-hyperedges.r get-hyperedges-reads.Post (λ _ x. now (x .1 .0))
+get-hyperedges-agrees κs args a b x y p q = agree _ p q
+
 -- ---- traversal
 
 pub get-bfs-agrees : Agrees 2 get-bfs.ps get-bfs.r get-bfs-reads.Post (λ _ x. now (x .1 .1 .0))
@@ -202,6 +233,12 @@ get-dfs-agrees κs args a b x y p q = agree _ p q
 
 pub is-reachable-agrees : Agrees 1 is-reachable.ps is-reachable.r is-reachable-reads.Post (λ _ _. [])
 is-reachable-agrees κs args a b x y p q = agree _ p q
+
+pub get-upstream-vertices-agrees : Agrees 2 get-upstream-vertices.ps get-upstream-vertices.r get-upstream-vertices-reads.Post (λ _ x. now (x .1 .1 .0))
+get-upstream-vertices-agrees κs args a b x y p q = agree _ p q
+
+pub get-downstream-vertices-agrees : Agrees 2 get-downstream-vertices.ps get-downstream-vertices.r get-downstream-vertices-reads.Post (λ _ x. now (x .1 .1 .0))
+get-downstream-vertices-agrees κs args a b x y p q = agree _ p q
 
 -- ---- structure
 

@@ -13,7 +13,7 @@ use Rattle.layout.specs.Content.{Table, liveVertices, liveHyperedges}
 use Rattle.layout.specs.Layout.{vertexLimit, hyperedgeLimit, limit, size, words, read}
 use Rattle.layout.specs.Answers.{Result, result, onFormed, onLive, listed, vertexMissing, hyperedgeMissing, onLiveVertices}
 use Rattle.edits.specs.Edits.{mergeVertices}
-use Rattle.edits.specs.Results.{addVertexResult, addHyperedgeResult, updateResult, removeVertexResult, mergeResult, removeHyperedgeResult, clearResult, emptyResult, firstPassing}
+use Rattle.edits.specs.Results.{addVertexResult, addHyperedgeResult, updateResult, removeVertexResult, mergeResult, removeHyperedgeResult, clearResult, emptyResult, firstPassing, membersOf}
 use Rattle.removals.specs.Removals.{withdrawn}
 use Rattle.trays.specs.declared.Withdrawal.{Withdrawal}
 use Rattle.trays.specs.Trays.{asked, trayResult}
@@ -22,8 +22,10 @@ use Rattle.lookups.specs.declared.Relation.{Relation}
 use Rattle.lookups.specs.declared.Listing.the-variants.{Connecting, Weighing, Holding}
 use Rattle.lookups.specs.Lookups.{related, shared, degree, listing, fullAdjacent, verticesWeighing, hasVertexWeighing}
 use Rattle.lookups.specs.Results.{relatedResult, intersectionsResult, degreeResult, listingResult, connectingResult, fullHyperedgesResult, fullAdjacentResult, weighingResult, containsResult, vertexIndexResult}
+use Rattle.reads.specs.Reads.{vertexWeight, vertexWeightResult, hyperedgeWeightResult, membersResult, verticesResult, hyperedgesResult}
 use Rattle.traversal.specs.declared.Order.{Order}
 use Rattle.traversal.specs.Traversal.{traversal, reachable, traversalResult, reachableResult}
+use Rattle.reached_vertices.specs.Reached.{reachedVertices, reachedResult}
 use Rattle.structural.specs.Sort.{sortOf, acyclic, sortResult, acyclicResult}
 use Rattle.structural.specs.Components.{connected, connectedComponents, strongComponents, connectedResult, connectedComponentsResult, strongComponentsResult}
 use Rattle.structural.specs.Closure.{closureOf, closureResult}
@@ -35,7 +37,7 @@ use Rattle.walk.specs.Walk.{walk, walkResult}
 use Rattle.frames.specs.Frames.{frameText, writeResult}
 use Rattle.frames.specs.Reading.{contentOf, accepted, faultyLine, readResult}
 use Rattle.sort_sheet.specs.Sheet.{sheetResult}
-use Rattle.promises.specs.Refusals.{Judged, content, unformed, unsized, deadVertices, closedWalk, noRoom, beside, faultyRecords, addVertexGrounds, addHyperedgeGrounds, updateGrounds, vertexGrounds, mergeGrounds, hyperedgeGrounds, trayGrounds, listingGrounds, intersectionsGrounds, sortGrounds, badText, readGrounds, sheetGrounds}
+use Rattle.promises.specs.Refusals.{Judged, content, unformed, unsized, deadVertices, closedWalk, noRoom, beside, faultyRecords, addVertexGrounds, addHyperedgeGrounds, updateGrounds, vertexGrounds, mergeGrounds, hyperedgeGrounds, trayGrounds, listingGrounds, membersGrounds, intersectionsGrounds, sortGrounds, badText, readGrounds, sheetGrounds}
 use Rattle.promises.proofs.Refusals.{none-refused, off-ground, live-judged, some-judged, short-judged, room-judged, number-judged, new-judged, changed-judged, other-judged, unequal-judged, apart-judged, faultless-judged, several-judged, formed-judged, listed-judged}
 
 -- ---- edits
@@ -153,6 +155,24 @@ module _ (ws : List ℕ) where
         let four = live-judged (listed-judged (shared es (content ws)) out) (liveHyperedges (content ws)) hyperedgeMissing es in
         formed-judged ws (intersectionsResult es out) (several-judged four es)
 
+    pub members-judged : (e : ℕ) → Judged (membersGrounds e (membersOf e (content ws .hyperedges)) out ws) out (onFormed ws out (membersResult e out))
+    unfolding membersResult
+    members-judged e =
+        let four = live-judged (listed-judged (membersOf e (content ws .hyperedges)) out) (liveHyperedges (content ws)) hyperedgeMissing (e ∷ []) in
+        formed-judged ws (membersResult e out) four
+
+    pub vertices-judged : Judged (listingGrounds [] (liveVertices (content ws)) out ws) out (onFormed ws out (verticesResult out))
+    unfolding onLive
+    vertices-judged = listing-judged [] (liveVertices (content ws)) (verticesResult out) refl
+
+    pub hyperedges-judged : Judged (listingGrounds [] (liveHyperedges (content ws)) out ws) out (onFormed ws out (hyperedgesResult out))
+    unfolding onLive
+    hyperedges-judged = listing-judged [] (liveHyperedges (content ws)) (hyperedgesResult out) refl
+
+    pub reached-judged : (dir : Direction) (v : ℕ) → Judged (listingGrounds (v ∷ []) (reachedVertices dir v (content ws)) out ws) out (onFormed ws out (reachedResult dir v out))
+    unfolding reachedResult
+    reached-judged dir v = listing-judged (v ∷ []) (reachedVertices dir v (content ws)) (reachedResult dir v out) refl
+
     pub traversal-judged : (how : Order) (v : ℕ) → Judged (listingGrounds (v ∷ []) (traversal how (content ws) v) out ws) out (onFormed ws out (traversalResult how v out))
     unfolding traversalResult
     traversal-judged how v = listing-judged (v ∷ []) (traversal how (content ws) v) (traversalResult how v out) refl
@@ -226,6 +246,15 @@ module _ (ws : List ℕ) where
   pub degree-judged : (dir : Direction) (v : ℕ) → Judged (vertexGrounds (v ∷ []) ws) [] (onFormed ws [] (degreeResult dir v))
   unfolding degreeResult
   degree-judged dir v = answering (v ∷ []) (degree dir v (content ws)) (degreeResult dir v) refl
+
+  pub vertex-weight-judged : (v : ℕ) → Judged (vertexGrounds (v ∷ []) ws) [] (onFormed ws [] (vertexWeightResult v))
+  unfolding vertexWeightResult
+  vertex-weight-judged v = answering (v ∷ []) (vertexWeight v (content ws)) (vertexWeightResult v) refl
+
+  pub hyperedge-weight-judged : (e : ℕ) → Judged (hyperedgeGrounds e ws) [] (onFormed ws [] (hyperedgeWeightResult e))
+  unfolding hyperedgeWeightResult
+  hyperedge-weight-judged e =
+      formed-judged ws (hyperedgeWeightResult e) (live-judged (none-refused refl) (liveHyperedges (content ws)) hyperedgeMissing (e ∷ []))
 
   pub reachable-judged : (x y : ℕ) → Judged (vertexGrounds (x ∷ y ∷ []) ws) [] (onFormed ws [] (reachableResult x y))
   unfolding reachableResult

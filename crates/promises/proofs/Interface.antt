@@ -58,12 +58,26 @@ use Rattle.vaultsorrel.proofs.vs_get_vertex_neighborhood.Kinds as vs-get-vertex
 use Rattle.vaultsorrel.proofs.vs_get_vertex_neighborhood.Reads as vs-get-vertex-neighborhood-reads
 use Rattle.vaultsorrel.proofs.vs_get_vertex_index.Kinds as vs-get-vertex-index
 use Rattle.vaultsorrel.proofs.vs_get_vertex_index.Reads as vs-get-vertex-index-reads
+use Rattle.vaultsorrel.proofs.vs_get_vertex_weight.Kinds as vs-get-vertex-weight
+use Rattle.vaultsorrel.proofs.vs_get_vertex_weight.Reads as vs-get-vertex-weight-reads
+use Rattle.vaultsorrel.proofs.vs_get_hyperedge_weight.Kinds as vs-get-hyperedge-weight
+use Rattle.vaultsorrel.proofs.vs_get_hyperedge_weight.Reads as vs-get-hyperedge-weight-reads
+use Rattle.vaultsorrel.proofs.vs_get_hyperedge_vertices.Kinds as vs-get-hyperedge-vertices
+use Rattle.vaultsorrel.proofs.vs_get_hyperedge_vertices.Reads as vs-get-hyperedge-vertices-reads
+use Rattle.vaultsorrel.proofs.vs_get_vertices.Kinds as vs-get-vertices
+use Rattle.vaultsorrel.proofs.vs_get_vertices.Reads as vs-get-vertices-reads
+use Rattle.vaultsorrel.proofs.vs_get_hyperedges.Kinds as vs-get-hyperedges
+use Rattle.vaultsorrel.proofs.vs_get_hyperedges.Reads as vs-get-hyperedges-reads
 use Rattle.vaultsorrel.proofs.vs_get_bfs.Kinds as vs-get-bfs
 use Rattle.vaultsorrel.proofs.vs_get_bfs.Reads as vs-get-bfs-reads
 use Rattle.vaultsorrel.proofs.vs_get_dfs.Kinds as vs-get-dfs
 use Rattle.vaultsorrel.proofs.vs_get_dfs.Reads as vs-get-dfs-reads
 use Rattle.vaultsorrel.proofs.vs_is_reachable.Kinds as vs-is-reachable
 use Rattle.vaultsorrel.proofs.vs_is_reachable.Reads as vs-is-reachable-reads
+use Rattle.vaultsorrel.proofs.vs_get_upstream_vertices.Kinds as vs-get-upstream-vertices
+use Rattle.vaultsorrel.proofs.vs_get_upstream_vertices.Reads as vs-get-upstream-vertices-reads
+use Rattle.vaultsorrel.proofs.vs_get_downstream_vertices.Kinds as vs-get-downstream-vertices
+use Rattle.vaultsorrel.proofs.vs_get_downstream_vertices.Reads as vs-get-downstream-vertices-reads
 use Rattle.vaultsorrel.proofs.vs_is_connected.Kinds as vs-is-connected
 use Rattle.vaultsorrel.proofs.vs_is_connected.Reads as vs-is-connected-reads
 use Rattle.vaultsorrel.proofs.vs_is_acyclic.Kinds as vs-is-acyclic
@@ -184,6 +198,23 @@ vs-get-vertex-neighborhood-agrees κs args a b x y p q = replies-agree _ p q
 pub vs-get-vertex-index-agrees : Agrees 2 vs-get-vertex-index.ps vs-get-vertex-index.r vs-get-vertex-index-reads.Post (λ _ x. now (x .1 .1 .0))
 vs-get-vertex-index-agrees κs args a b x y p q = replies-agree _ p q
 
+-- ---- plain reads
+
+pub vs-get-vertex-weight-agrees : Agrees 1 vs-get-vertex-weight.ps vs-get-vertex-weight.r vs-get-vertex-weight-reads.Post (λ _ _. [])
+vs-get-vertex-weight-agrees κs args a b x y p q = replies-agree _ p q
+
+pub vs-get-hyperedge-weight-agrees : Agrees 1 vs-get-hyperedge-weight.ps vs-get-hyperedge-weight.r vs-get-hyperedge-weight-reads.Post (λ _ _. [])
+vs-get-hyperedge-weight-agrees κs args a b x y p q = replies-agree _ p q
+
+pub vs-get-hyperedge-vertices-agrees : Agrees 2 vs-get-hyperedge-vertices.ps vs-get-hyperedge-vertices.r vs-get-hyperedge-vertices-reads.Post (λ _ x. now (x .1 .1 .0))
+vs-get-hyperedge-vertices-agrees κs args a b x y p q = replies-agree _ p q
+
+pub vs-get-vertices-agrees : Agrees 2 vs-get-vertices.ps vs-get-vertices.r vs-get-vertices-reads.Post (λ _ x. now (x .1 .0))
+vs-get-vertices-agrees κs args a b x y p q = replies-agree _ p q
+
+pub vs-get-hyperedges-agrees : Agrees 2 vs-get-hyperedges.ps vs-get-hyperedges.r vs-get-hyperedges-reads.Post (λ _ x. now (x .1 .0))
+vs-get-hyperedges-agrees κs args a b x y p q = replies-agree _ p q
+
 -- ---- traversal
 
 pub vs-get-bfs-agrees : Agrees 2 vs-get-bfs.ps vs-get-bfs.r vs-get-bfs-reads.Post (λ _ x. now (x .1 .1 .0))
@@ -194,6 +225,12 @@ vs-get-dfs-agrees κs args a b x y p q = replies-agree _ p q
 
 pub vs-is-reachable-agrees : Agrees 1 vs-is-reachable.ps vs-is-reachable.r vs-is-reachable-reads.Post (λ _ _. [])
 vs-is-reachable-agrees κs args a b x y p q = replies-agree _ p q
+
+pub vs-get-upstream-vertices-agrees : Agrees 2 vs-get-upstream-vertices.ps vs-get-upstream-vertices.r vs-get-upstream-vertices-reads.Post (λ _ x. now (x .1 .1 .0))
+vs-get-upstream-vertices-agrees κs args a b x y p q = replies-agree _ p q
+
+pub vs-get-downstream-vertices-agrees : Agrees 2 vs-get-downstream-vertices.ps vs-get-downstream-vertices.r vs-get-downstream-vertices-reads.Post (λ _ x. now (x .1 .1 .0))
+vs-get-downstream-vertices-agrees κs args a b x y p q = replies-agree _ p q
 
 -- ---- structure
 

@@ -159,7 +159,7 @@ updateGrounds x ms ws =
     unformed ws ∷ noMembers ms x ∷ tooMany ms
     ∷ (deadVertices t ms ++ (equalNext ms ++ (deadHyperedges t (x ∷ []) ++ (sameMembers x ms t ∷ []))))
 
--- remove vertex 1, 3; queries 1, then the first argument before the second
+-- remove vertex, and its weight: 1, 3; queries 1, then the first argument before the second
 abbrev pub vertexGrounds : List ℕ → List ℕ → List Ground
 vertexGrounds vs ws = unformed ws ∷ deadVertices (content ws) vs
 
@@ -168,7 +168,7 @@ abbrev pub mergeGrounds : ℕ → ℕ → List ℕ → List Ground
 mergeGrounds v w ws =
     let t = content ws in unformed ws ∷ (deadVertices t (v ∷ w ∷ []) ++ (sameVertex v w ∷ beside v w t))
 
--- remove hyperedge 1, 4
+-- remove hyperedge, and its weight: 1, 4
 abbrev pub hyperedgeGrounds : ℕ → List ℕ → List Ground
 hyperedgeGrounds x ws = unformed ws ∷ deadHyperedges (content ws) (x ∷ [])
 
@@ -179,6 +179,10 @@ trayGrounds rs ws = unformed ws ∷ faultyRecords (content ws) rs
 -- queries 1, then their own refusal, then 11
 abbrev pub listingGrounds : List ℕ → List ℕ → List ℕ → List ℕ → List Ground
 listingGrounds vs xs lent ws = unformed ws ∷ (deadVertices (content ws) vs ++ (noRoom xs lent ∷ []))
+
+-- the members of a hyperedge 1, 4, 11
+abbrev pub membersGrounds : ℕ → List ℕ → List ℕ → List ℕ → List Ground
+membersGrounds e xs lent ws = unformed ws ∷ (deadHyperedges (content ws) (e ∷ []) ++ (noRoom xs lent ∷ []))
 
 -- intersections 1, 10, 4, 11
 abbrev pub intersectionsGrounds : List ℕ → List ℕ → List ℕ → List ℕ → List Ground

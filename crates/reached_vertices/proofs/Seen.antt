@@ -1,6 +1,6 @@
 -- The marks of a search without its start, and the vertices that they pick. Assumes nothing.
 use mathlib.Core.Path.{_≡_, refl, sym, ap, ap₂, _∙_}
-use mathlib.Core.Bool.{Bool, true, false, not}
+use mathlib.Core.Bool.{Bool, false, not}
 use mathlib.Core.List.{List}
 use Prim.Native.Nat.{ℕ, _+_, _≤_, _<_}
 use native.Mathlib.Omega.{arith}
@@ -21,13 +21,11 @@ use Rattle.layout.proofs.Read.{live-length, vertex-found}
 use Rattle.marks.specs.Marks.{isMarked, marked}
 use Rattle.marks.proofs.Marked.{marked-filter}
 use Rattle.lookups.specs.declared.Direction.{Direction}
-use Rattle.lookups.specs.Lookups.{oriented}
 use Rattle.lookups.specs.State.{noMarks}
 use Rattle.lookups.proofs.Marking.{no-marks-length}
 use Rattle.lookups.proofs.Found.{found-same}
 use Rattle.steps.specs.Matrices.{numberOf}
 use Rattle.steps.proofs.Records.{record-once}
-use Rattle.traversal.specs.Traversal.{reachable}
 use Rattle.reached_vertices.specs.Reached.{isOtherReached, reachedVertices, reachedResult}
 use Rattle.reached_vertices.specs.Inner.{SeenAlong, seenBeside}
 

@@ -3,7 +3,6 @@ use mathlib.Core.Path.{_≡_, sym, ap, _∙_, subst}
 use mathlib.Core.Bool.{true}
 use mathlib.Core.List.{List}
 use Prim.Native.Nat.{ℕ, _<_}
-use lib.ListN.{getD}
 use Rattle.lists.specs.Tests.{bit}
 use Rattle.lists.proofs.Cases.{on, clash}
 use Rattle.lists.proofs.Memb.{memb-getD}

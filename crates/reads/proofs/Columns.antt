@@ -5,7 +5,7 @@ use Prim.Native.Nat.{ℕ, _+_, _*_, _≤_, _<_}
 use native.Mathlib.Nat.{mul-one}
 use native.Mathlib.Omega.{arith}
 use lib.ListN.{length, getD, set}
-use Rattle.lists.specs.Lists.{over, tab}
+use Rattle.lists.specs.Lists.{over}
 use Rattle.lists.proofs.Tab.{length-tab, getD-tab, tab-ext}
 use Rattle.lists.proofs.Parts.{part-words}
 use Rattle.layout.specs.declared.Answer.the-variants.{Done, NoRoom}

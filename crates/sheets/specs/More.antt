@@ -4,21 +4,23 @@ use Prim.Native.Nat.{ℕ}
 use Rattle.layout.specs.declared.Answer.the-variants.{Done, NoRoom, SameVertex, BadRecord, EqualNeighbours}
 use Rattle.layout.specs.Content.{Table, hyperedgeOf}
 use Rattle.layout.specs.Layout.{limit, words}
-use Rattle.layout.specs.Answers.{Result, result, vertexMissing}
+use Rattle.layout.specs.Answers.{Result, result, vertexMissing, hyperedgeMissing}
 use Rattle.edits.specs.Results.{addHyperedgeResult, updateResult, removeVertexResult, sideBySideIn, mergeResult}
 use Rattle.trays.specs.declared.Withdrawal.{Withdrawal}
 use Rattle.trays.specs.Trays.{trayResult}
 use Rattle.lookups.specs.declared.Direction.the-variants.{From, To}
 use Rattle.lookups.specs.declared.Relation.the-variants.{Along, Around}
 use Rattle.lookups.specs.Results.{relatedResult, intersectionsResult, degreeResult, connectingResult, fullHyperedgesResult, fullAdjacentResult, weighingResult, vertexIndexResult}
+use Rattle.reads.specs.Reads.{vertexWeightResult, hyperedgeWeightResult, membersResult, verticesResult, hyperedgesResult}
 use Rattle.traversal.specs.declared.Order.the-variants.{BreadthFirst, DepthFirst}
 use Rattle.traversal.specs.Traversal.{traversalResult, reachableResult}
+use Rattle.reached_vertices.specs.Reached.{reachedResult}
 use Rattle.structural.specs.Sort.{sortResult, acyclicResult}
 use Rattle.structural.specs.Components.{connectedResult, connectedComponentsResult}
 use Rattle.cut.specs.Cut.{cutVerticesResult}
 use Rattle.properties.specs.Results.{orphanVerticesResult, endpointsResult, uniformResult}
 use Rattle.paths.specs.Paths.{noNumber, pairResult, fromResult}
-use Rattle.sheets.specs.Sheets.{vertex, table, G, K, Loop, Repeated, held, Case, lent, gives}
+use Rattle.sheets.specs.Sheets.{vertex, table, G, K, Loop, Repeated, Left, held, Case, lent, gives}
 
 -- ---- tables
 
@@ -236,6 +238,44 @@ not-back = record { given = held G; query = reachableResult 2 3; answer = answer
 abbrev pub reached-itself : Case
 reached-itself = record { given = held G; query = reachableResult 4 4; answer = answers 1 }
 
+-- all that lead to 2, and all that 0 leads to; in a ring every other vertex, and never the vertex itself
+abbrev pub upstream-2 : Case
+upstream-2 = record { given = held G; query = reachedResult To 2 (lent 3); answer = gives (0 ∷ 1 ∷ 3 ∷ []) }
+
+abbrev pub downstream-0 : Case
+downstream-0 = record { given = held G; query = reachedResult From 0 (lent 3); answer = gives (1 ∷ 2 ∷ 3 ∷ []) }
+
+abbrev pub upstream-ring : Case
+upstream-ring = record { given = held Ring; query = reachedResult To 1 (lent 2); answer = gives (0 ∷ 2 ∷ []) }
+
+abbrev pub downstream-loop : Case
+downstream-loop = record { given = held Loop; query = reachedResult From 0 (lent 0); answer = gives [] }
+
+-- weights, by number and not by record; members in their order, with repeats; the live numbers
+abbrev pub weight-3 : Case
+weight-3 = record { given = held Gaps; query = vertexWeightResult 3; answer = answers 3 }
+
+abbrev pub weight-dead : Case
+weight-dead = record { given = held Gaps; query = vertexWeightResult 2; answer = result (vertexMissing 2) [] }
+
+abbrev pub cost-2 : Case
+cost-2 = record { given = held Left; query = hyperedgeWeightResult 2; answer = answers 2 }
+
+abbrev pub cost-dead : Case
+cost-dead = record { given = held Left; query = hyperedgeWeightResult 1; answer = result (hyperedgeMissing 1) [] }
+
+abbrev pub members-0 : Case
+members-0 = record { given = held Doubled; query = membersResult 0 (lent 3); answer = gives (3 ∷ 1 ∷ 3 ∷ []) }
+
+abbrev pub members-no-room : Case
+members-no-room = record { given = held Doubled; query = membersResult 0 (lent 2); answer = result (NoRoom 3) (lent 2) }
+
+abbrev pub all-vertices : Case
+all-vertices = record { given = held Gaps; query = verticesResult (lent 3); answer = gives (1 ∷ 3 ∷ 4 ∷ []) }
+
+abbrev pub all-hyperedges : Case
+all-hyperedges = record { given = held Left; query = hyperedgesResult (lent 2); answer = gives (0 ∷ 2 ∷ []) }
+
 -- what is lent beyond the answer is kept; without room nothing is written
 abbrev pub sort-kept : Case
 sort-kept = record { given = held G; query = sortResult (9 ∷ 9 ∷ 9 ∷ 9 ∷ 9 ∷ 9 ∷ []); answer = result (Done 5) (0 ∷ 1 ∷ 3 ∷ 2 ∷ 4 ∷ 9 ∷ []) }
@@ -311,6 +351,8 @@ more =
     ∷ after-0 ∷ before-2 ∷ around-2 ∷ around-4 ∷ full-after-0 ∷ full-before-1
     ∷ full-repeated ∷ out-of-0 ∷ into-1 ∷ connecting-K ∷ connecting-none ∷ weighing-2
     ∷ index-3 ∷ holding-3 ∷ intersecting ∷ intersecting-twice ∷ breadth-first ∷ depth-first
+    ∷ upstream-2 ∷ downstream-0 ∷ upstream-ring ∷ downstream-loop ∷ weight-3 ∷ weight-dead
+    ∷ cost-2 ∷ cost-dead ∷ members-0 ∷ members-no-room ∷ all-vertices ∷ all-hyperedges
     ∷ reached-2 ∷ not-back ∷ reached-itself ∷ sort-kept ∷ sort-no-room ∷ acyclic-G
     ∷ acyclic-loop ∷ components ∷ components-no-room ∷ not-connected ∷ orphans ∷ ends
     ∷ no-ends ∷ uniform-loop ∷ uniform-K ∷ uniform-none ∷ cut-chain ∷ cut-ring

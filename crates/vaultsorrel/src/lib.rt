@@ -6,10 +6,12 @@ ghost use Rattle.edits.specs.Results.{addVertexResult, addHyperedgeResult, upda
 ghost use Rattle.trays.specs.Trays.{trayResult};
 ghost use Rattle.vaultsorrel.specs.Replies.{replied};
 ghost use Rattle.lookups.specs.Results.{relatedResult, fullAdjacentResult, degreeResult, connectingResult, intersectionsResult, weighingResult, fullHyperedgesResult, containsResult, vertexIndexResult};
+ghost use Rattle.reads.specs.Reads.{vertexWeightResult, hyperedgeWeightResult, membersResult, verticesResult, hyperedgesResult};
 ghost use Rattle.lookups.specs.declared.Direction.the-variants.{From, To};
 ghost use Rattle.lookups.specs.declared.Relation.the-variants.{Along, Around};
 ghost use Rattle.traversal.specs.Traversal.{traversalResult, reachableResult};
 ghost use Rattle.traversal.specs.declared.Order.the-variants.{BreadthFirst, DepthFirst};
+ghost use Rattle.reached_vertices.specs.Reached.{reachedResult};
 ghost use Rattle.structural.specs.Components.{connectedResult, strongComponentsResult, connectedComponentsResult};
 ghost use Rattle.structural.specs.Sort.{acyclicResult, sortResult};
 ghost use Rattle.structural.specs.Closure.{closureResult};
@@ -225,6 +227,48 @@ pub extern "C" fn vs_get_vertex_index(t: &[u32], weight: u32, out: &mut [u32]) -
     layout::reply_of(vertex_weights::get_vertex_index(t, weight, out))
 }
 
+// ---- Plain reads
+
+// The weight of a vertex.
+#[no_mangle]
+pub extern "C" fn vs_get_vertex_weight(t: &[u32], v: VertexIndex) -> Reply
+    ensures { λ r. ⌜ replied r [] ≡ onFormed (now (t .entry)) [] (vertexWeightResult (v .0)) ⌝ }
+{
+    layout::reply_of(reads::get_vertex_weight(t, v))
+}
+
+// The weight of a hyperedge.
+#[no_mangle]
+pub extern "C" fn vs_get_hyperedge_weight(t: &[u32], e: HyperedgeIndex) -> Reply
+    ensures { λ r. ⌜ replied r [] ≡ onFormed (now (t .entry)) [] (hyperedgeWeightResult (e .0)) ⌝ }
+{
+    layout::reply_of(reads::get_hyperedge_weight(t, e))
+}
+
+// The members of a hyperedge, in their order.
+#[no_mangle]
+pub extern "C" fn vs_get_hyperedge_vertices(t: &[u32], e: HyperedgeIndex, out: &mut [u32]) -> Reply
+    ensures { λ r. ⌜ replied r (now (out .exit)) ≡ onFormed (now (t .entry)) (now (out .entry)) (membersResult (e .0) (now (out .entry))) ⌝ }
+{
+    layout::reply_of(reads::get_hyperedge_vertices(t, e, out))
+}
+
+// The live vertices, ascending.
+#[no_mangle]
+pub extern "C" fn vs_get_vertices(t: &[u32], out: &mut [u32]) -> Reply
+    ensures { λ r. ⌜ replied r (now (out .exit)) ≡ onFormed (now (t .entry)) (now (out .entry)) (verticesResult (now (out .entry))) ⌝ }
+{
+    layout::reply_of(reads::get_vertices(t, out))
+}
+
+// The live hyperedges, ascending.
+#[no_mangle]
+pub extern "C" fn vs_get_hyperedges(t: &[u32], out: &mut [u32]) -> Reply
+    ensures { λ r. ⌜ replied r (now (out .exit)) ≡ onFormed (now (t .entry)) (now (out .entry)) (hyperedgesResult (now (out .entry))) ⌝ }
+{
+    layout::reply_of(reads::get_hyperedges(t, out))
+}
+
 // ---- Traversal
 
 // Lists what is reached from v, breadth first, smallest neighbour first.
@@ -249,6 +293,22 @@ pub extern "C" fn vs_is_reachable(t: &[u32], from: VertexIndex, to: VertexIndex)
     ensures { λ r. ⌜ replied r [] ≡ onFormed (now (t .entry)) [] (reachableResult (from .0) (to .0)) ⌝ }
 {
     layout::reply_of(traversal::is_reachable(t, from, to))
+}
+
+// The other vertices from which the vertex is reached, ascending.
+#[no_mangle]
+pub extern "C" fn vs_get_upstream_vertices(t: &[u32], v: VertexIndex, out: &mut [u32]) -> Reply
+    ensures { λ r. ⌜ replied r (now (out .exit)) ≡ onFormed (now (t .entry)) (now (out .entry)) (reachedResult To (v .0) (now (out .entry))) ⌝ }
+{
+    layout::reply_of(reached_vertices::get_upstream_vertices(t, v, out))
+}
+
+// The other vertices that are reached from the vertex, ascending.
+#[no_mangle]
+pub extern "C" fn vs_get_downstream_vertices(t: &[u32], v: VertexIndex, out: &mut [u32]) -> Reply
+    ensures { λ r. ⌜ replied r (now (out .exit)) ≡ onFormed (now (t .entry)) (now (out .entry)) (reachedResult From (v .0) (now (out .entry))) ⌝ }
+{
+    layout::reply_of(reached_vertices::get_downstream_vertices(t, v, out))
 }
 
 // ---- Structure

@@ -16,7 +16,7 @@ enum-known-f : tie.Need-enum-known-f
 enum-known-f c = search needs
 
 vertex-weight-requires : tie.Need-vertex-weight-requires
-vertex-weight-requires c κs = (search needs, search vertex-within)
+vertex-weight-requires c κs = (search needs, search (vertex-within, needs))
 
 wide-requires : tie.Need-wide-requires
 wide-requires c κs = search needs

@@ -1,0 +1,3 @@
+mod Effects
+pub mod Parts
+mod Sheets

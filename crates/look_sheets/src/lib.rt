@@ -1,0 +1,1 @@
+// The sheets of looks, written on a page.

@@ -1,0 +1,4 @@
+pub mod Passed
+pub mod Back
+pub mod Going
+pub mod Found
