@@ -1,9 +1,9 @@
--- `query_lines::put_title` meets its contract. Assumes nothing.
+-- `query_titles::put_title` meets its contract. Assumes nothing.
 use borrow.Author.Needs.{needs}
-use Rattle.query_lines.specs.Queries.{title}
-use Rattle.query_lines.proofs.Cases.{as-titled}
-use Rattle.query_lines.proofs.put_title.Statement.{statement}
-use Rattle.query_lines.proofs.put_title.Tie as tie
+use Rattle.query_titles.specs.Titles.{title}
+use Rattle.query_titles.proofs.Cases.{as-titled}
+use Rattle.query_titles.proofs.put_title.Statement.{statement}
+use Rattle.query_titles.proofs.put_title.Tie as tie
 
 enum-told : tie.Need-enum-told
 enum-told c = search needs
