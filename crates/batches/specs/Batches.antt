@@ -20,9 +20,10 @@ use Rattle.commands.specs.declared.Change.{Change}
 use Rattle.commands.specs.declared.Change.the-variants.{Tube, Transfer, Relist, WithdrawTubes, WithdrawTransfers, Merge, Review, Release}
 use Rattle.commands.specs.Commands.{commandOn, numbersOn}
 use Rattle.asking.specs.Asking.{asked}
-use Rattle.query_sheets.specs.Queries.{querySheet, noWords}
+use Rattle.query_lines.specs.Queries.{querySheet}
+use Rattle.query_sheets.specs.Room.{noWords}
 use Rattle.look_sheets.specs.Looks.{lookResult}
-use Rattle.change_sheets.specs.Changes.{Told, changeResult}
+use Rattle.changes.specs.Changes.{Told, changeTold}
 use Rattle.help_texts.specs.Help.{helpText, helpOn, versionText}
 use Rattle.messages.specs.Messages.{refusalText, misuseText}
 use Rattle.closed_walk.specs.Named.{closedWalkResult}
@@ -69,18 +70,18 @@ listIn (WrongCount k) ns = ns
 listIn TooMany ns = ns
 
 -- what a command answers and leaves
-unfoldable pub told : Manner → List ℕ → Command → List ℕ → Desk → Page → Told
-told how name Init ns d p = toldOf d (paged (write (filled (text "U made\n") [] name) p))
-told how name (Ask q) ns d p = toldOf d (sheetOn (asked q (d .table) noWords) (querySheet (how .plain) q) p)
-told how name (View look) ns d p = toldOf d (lookResult look ns (how .plain) d p)
-told how name (Make c) ns d p = changeResult c (listOf c ns) (how .plain) d p
-told how name Help ns d p = toldOf d (paged (write helpText p))
-told how name (HelpOn k) ns d p = toldOf d (paged (write (helpOn k) p))
-told how name Version ns d p = toldOf d (paged (write versionText p))
-told how name Unknown ns d p = toldOf d (paged p)
-told how name (NotNumber place) ns d p = toldOf d (paged p)
-told how name (WrongCount k) ns d p = toldOf d (paged p)
-told how name TooMany ns d p = toldOf d (paged p)
+unfoldable pub commandTold : Manner → List ℕ → Command → List ℕ → Desk → Page → Told
+commandTold how name Init ns d p = toldOf d (paged (write (filled (text "U made\n") [] name) p))
+commandTold how name (Ask q) ns d p = toldOf d (sheetOn (asked q (d .table) noWords) (querySheet (how .plain) q) p)
+commandTold how name (View look) ns d p = toldOf d (lookResult look ns (how .plain) d p)
+commandTold how name (Make c) ns d p = changeTold (how .plain) c (listOf c ns) d p
+commandTold how name Help ns d p = toldOf d (paged (write helpText p))
+commandTold how name (HelpOn k) ns d p = toldOf d (paged (write (helpOn k) p))
+commandTold how name Version ns d p = toldOf d (paged (write versionText p))
+commandTold how name Unknown ns d p = toldOf d (paged p)
+commandTold how name (NotNumber place) ns d p = toldOf d (paged p)
+commandTold how name (WrongCount k) ns d p = toldOf d (paged p)
+commandTold how name TooMany ns d p = toldOf d (paged p)
 
 -- the i-th line is no command, or `init` where it does not stand first for a file that is made
 unfoldable pub isMisused : Manner → ℕ → Command → Bool
@@ -131,7 +132,7 @@ unfoldable pub commanded : Manner → List ℕ → ℕ → List ℕ → Command 
 commanded how name i line c ns d p =
     cond (isMisused how i c)
     (ended 2 d (anew (misuseText (how .single) i c line) (p .bytes)))
-    (settled how name i c ns d (told how name c ns d p))
+    (settled how name i c ns d (commandTold how name c ns d p))
 
 -- an empty line is passed over
 unfoldable pub lineEnd : Manner → List ℕ → ℕ → List ℕ → Desk → Page → Ended

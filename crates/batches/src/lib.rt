@@ -4,11 +4,15 @@ ghost use mathlib.Core.List.{[]};
 ghost use Prim.Native.Nat.{_≤_, _<_};
 ghost use lib.ListN.{length, take, drop};
 ghost use Rattle.layout.specs.Layout.{limit, size, vertexLimit};
+ghost use lib.Dec.{eqb};
+ghost use Rattle.lists.specs.Tests.{_and_};
 ghost use Rattle.layout.specs.Answers.{number, detail};
 ghost use Rattle.desk.specs.Desk.{deskOf};
-ghost use Rattle.wording.specs.Pages.{page};
-ghost use Rattle.change_sheets.specs.Changes.{telling};
-ghost use Rattle.batches.specs.Batches.{ended, listOf, listIn, told, isMisused, walkOf, walkNamed, refused, settled, commanded, lineEnd, carried, batch, runOf, hasLengths};
+ghost use Rattle.wording.specs.Texts.{text};
+ghost use Rattle.wording.specs.Pages.{page, write};
+ghost use Rattle.wording.specs.Forms.{filled};
+ghost use Rattle.changes.specs.Changes.{told};
+ghost use Rattle.batches.specs.Batches.{ended, listOf, listIn, commandTold, isMisused, walkOf, walkNamed, refused, settled, commanded, lineEnd, carried, batch, runOf, hasLengths};
 use commands::Change;
 use commands::Command;
 use layout::Answer;
@@ -74,3 +78,74 @@ fn list_in(c: Command, ns: &[u32]) -> &[u32]
         Command::TooMany => ns,
     }
 }
+
+// Carries out a command on the page.
+fn tell(
+    t: &mut [u32],
+    s: &mut [u32],
+    how: Manner,
+    name: &[u8],
+    c: Command,
+    ns: &[u32],
+    out: &mut [u8],
+    at: usize,
+) -> Answer
+    ensures { λ r. ⌜ told r (deskOf (now (t .exit)) (now (s .exit))) (now (out .exit)) ≡ commandTold how (now (name .entry)) c (now (ns .entry)) (deskOf (now (t .entry)) (now (s .entry))) (page (now (out .entry)) at) ⌝ }
+{
+    let plain = how.plain;
+    match c {
+        Command::Init => Answer::Done(put_made(name, out, at)),
+        Command::Ask(q) => query_sheets::put_query(t, q, plain, out, at),
+        Command::View(look) => look_sheets::put_look(t, s, look, ns, plain, out, at),
+        Command::Make(change) => {
+            let list = list_of(change, ns);
+            change_sheets::make_change(t, s, change, list, plain, out, at)
+        }
+        Command::Help => Answer::Done(help_texts::put_help(out, at)),
+        Command::HelpOn(k) => Answer::Done(help_texts::put_help_on(k, out, at)),
+        Command::Version => Answer::Done(help_texts::put_version(out, at)),
+        Command::Unknown => Answer::Done(at),
+        Command::NotNumber(_) => Answer::Done(at),
+        Command::WrongCount(_) => Answer::Done(at),
+        Command::TooMany => Answer::Done(at),
+    }
+}
+
+fn put_made(name: &[u8], out: &mut [u8], at: usize) -> usize
+    ensures { λ r. ⌜ page (now (out .exit)) r ≡ write (filled (text "U made\n") [] (now (name .entry))) (page (now (out .entry)) at) ⌝ }
+{
+    let none: [u32; 0] = [];
+    wording::put_form(out, at, b"U made\n", &none, name)
+}
+
+// Whether the i-th line is no command, or `init` where it does not stand first for a file that is made.
+fn is_misused(how: Manner, i: u32, c: Command) -> bool
+    ensures { λ r. ⌜ r ≡ isMisused how i c ⌝ }
+{
+    match c {
+        Command::Init => !stands_first(how, i),
+        Command::Ask(_) => false,
+        Command::View(_) => false,
+        Command::Make(_) => false,
+        Command::Help => false,
+        Command::HelpOn(_) => false,
+        Command::Version => false,
+        Command::Unknown => true,
+        Command::NotNumber(_) => true,
+        Command::WrongCount(_) => true,
+        Command::TooMany => true,
+    }
+}
+
+// The first line, for a file that is made.
+fn stands_first(how: Manner, i: u32) -> bool
+    ensures { λ r. ⌜ r ≡ (how .makes and eqb i 1) ⌝ }
+{
+    if !how.makes {
+        return false;
+    }
+    i == 1
+}
+
+// ---- one line
+
