@@ -1,9 +1,9 @@
--- `batches::list_of` meets its contract. Assumes nothing.
-use Rattle.batches.proofs.Told.{list-as}
-use Rattle.batches.specs.Batches.{listOf}
+-- `command_sheets::list_of` meets its contract. Assumes nothing.
+use Rattle.command_sheets.proofs.Told.{list-as}
+use Rattle.command_sheets.specs.Commanded.{listOf}
 use borrow.Author.Needs.{needs}
-use Rattle.batches.proofs.list_of.Statement.{statement}
-use Rattle.batches.proofs.list_of.Tie as tie
+use Rattle.command_sheets.proofs.list_of.Statement.{statement}
+use Rattle.command_sheets.proofs.list_of.Tie as tie
 
 enum-told : tie.Need-enum-told
 enum-told c = search needs

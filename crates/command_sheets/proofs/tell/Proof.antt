@@ -1,9 +1,9 @@
--- `batches::tell` meets its contract. Assumes nothing.
-use Rattle.batches.proofs.Told.{told-as, said-told, page-told}
-use Rattle.batches.specs.Batches.{commandTold}
+-- `command_sheets::tell` meets its contract. Assumes nothing.
+use Rattle.command_sheets.proofs.Told.{told-as, said-told, page-told}
+use Rattle.command_sheets.specs.Commanded.{commandTold}
 use borrow.Author.Needs.{needs}
-use Rattle.batches.proofs.tell.Statement.{statement}
-use Rattle.batches.proofs.tell.Tie as tie
+use Rattle.command_sheets.proofs.tell.Statement.{statement}
+use Rattle.command_sheets.proofs.tell.Tie as tie
 
 enum-told : tie.Need-enum-told
 enum-told c = search needs

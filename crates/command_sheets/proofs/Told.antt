@@ -18,8 +18,8 @@ use Rattle.commands.specs.declared.Command.{Command}
 use Rattle.commands.specs.declared.Command.the-variants.{Init}
 use Rattle.commands.specs.declared.Change.{Change}
 use Rattle.changes.specs.Changes.{Told, told}
-use Rattle.batches.specs.declared.Manner.{Manner}
-use Rattle.batches.specs.Batches.{toldOf, listOf, listIn, commandTold, isMisused}
+use Rattle.command_sheets.specs.declared.Manner.{Manner}
+use Rattle.command_sheets.specs.Commanded.{toldOf, listOf, listIn, commandTold, isMisused}
 
 -- c is the change k, and xs is the list of k
 pub list-as : (ns xs : List ℕ) (c k : Change) → c ≡ k → xs ≡ listOf k ns → xs ≡ listOf c ns

@@ -1,9 +1,9 @@
--- `batches::behind_first` meets its contract. Assumes nothing.
+-- `command_sheets::behind_first` meets its contract. Assumes nothing.
 use Rattle.lists.proofs.Parts.{part-tail}
-use Rattle.batches.proofs.Told.{none-behind}
+use Rattle.command_sheets.proofs.Told.{none-behind}
 use borrow.Author.Needs.{needs}
-use Rattle.batches.proofs.behind_first.Statement.{statement}
-use Rattle.batches.proofs.behind_first.Tie as tie
+use Rattle.command_sheets.proofs.behind_first.Statement.{statement}
+use Rattle.command_sheets.proofs.behind_first.Tie as tie
 
 sub-result : tie.Need-sub-result
 sub-result c = search needs
