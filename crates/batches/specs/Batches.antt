@@ -106,8 +106,11 @@ carried how name i (line ∷ lines) e =
     cond (eqb (e .status) 0) (carried how name (suc i) lines (lineEnd how name i line (e .desk) (e .page))) e
 
 -- all or none: unless every line is done the desk is as it was
+unfoldable pub kept : ℕ → Desk → Desk → Desk
+kept status new old = cond (eqb status 0) new old
+
 unfoldable pub allOrNone : Desk → Ended → Ended
-allOrNone d e = ended (cond (eqb (e .status) 0) (e .desk) d) (said (e .status) (e .page))
+allOrNone d e = ended (kept (e .status) (e .desk) d) (said (e .status) (e .page))
 
 -- table and states have their lengths, and the batch has fewer than 4,294,967,295 bytes
 unfoldable pub hasLengths : List ℕ → Desk → Bool

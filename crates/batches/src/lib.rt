@@ -8,12 +8,13 @@ ghost use Rattle.desk.specs.Desk.{deskOf};
 ghost use Rattle.wording.specs.Pages.{page, write};
 ghost use Rattle.messages.specs.Messages.{refusalText};
 ghost use Rattle.command_sheets.specs.Commanded.{listIn};
-ghost use Rattle.batches.specs.Batches.{walkOn, refused, settled, commanded, lineEnd, carried, linesOf, ended, said, allOrNone, hasLengths, runOf};
+ghost use Rattle.batches.specs.Batches.{walkOn, refused, settled, commanded, lineEnd, carried, linesOf, ended, said, kept, allOrNone, hasLengths, runOf};
 ghost use Rattle.batches.specs.Runs.{saidBy, endedBy};
 use command_sheets::Manner;
 use commands::Command;
 use layout::Answer;
 use query_sheets::first;
+use read_frames::copy_words;
 
 // Room for what is printed: the longest sheet is the closure of 256 tubes.
 pub const PAGE: usize = 2097152;
@@ -193,19 +194,39 @@ fn run_lines(t: &mut [u32], s: &mut [u32], how: Manner, name: &[u8], batch: &[u8
     }
 }
 
-fn copy_words(from: &[u32], to: &mut [u32])
-    requires { ⌜ length (now from) ≡ length (now to) ⌝ }
-    ensures { λ _. ⌜ now (to .exit) ≡ now (from .entry) ⌝ }
+// Copies become table and states where every line is done.
+fn keep(status: u8, table: &[u32], states: &[u32], t: &mut [u32], s: &mut [u32])
+    requires { ⌜ (length (now t) ≡ length (now table)) × (length (now s) ≡ length (now states)) ⌝ }
+    ensures { λ _. ⌜ deskOf (now (t .exit)) (now (s .exit)) ≡ kept status (deskOf (now (table .entry)) (now (states .entry))) (deskOf (now (t .entry)) (now (s .entry))) ⌝ }
 {
-    let mut i = 0;
-    while i < from.len() {
-        to[i] = from[i];
-        i += 1;
+    if status != 0 {
+        return;
     }
+    copy_words(t, table);
+    copy_words(s, states);
 }
 
-// The lines are carried out on copies, which become table and states where every line is done.
+// The lines are carried out on copies.
 fn run_on_copies(
+    table: &mut [u32],
+    states: &mut [u32],
+    t: &mut [u32],
+    s: &mut [u32],
+    how: Manner,
+    name: &[u8],
+    batch: &[u8],
+    out: &mut [u8],
+) -> Ran
+    requires { ⌜ (now table ≡ now t) × (now states ≡ now s) × (length (now batch) < 4294967295) ⌝ }
+    ensures { λ r. ⌜ endedBy r (deskOf (now (t .exit)) (now (s .exit))) (now (out .exit)) ≡ allOrNone (deskOf (now (t .entry)) (now (s .entry))) (carried how (now (name .entry)) 1 (linesOf (now (batch .entry))) (ended (deskOf (now (t .entry)) (now (s .entry))) (said 0 (page (now (out .entry)) 0)))) ⌝ }
+{
+    let ran = run_lines(table, states, how, name, batch, out);
+    keep(ran.status, table, states, t, s);
+    ran
+}
+
+// The same, by way of words for the copies.
+fn run_copied(
     table: &mut [u32],
     states: &mut [u32],
     t: &mut [u32],
@@ -218,15 +239,9 @@ fn run_on_copies(
     requires { ⌜ (length (now table) ≡ length (now t)) × (length (now states) ≡ length (now s)) × (length (now batch) < 4294967295) ⌝ }
     ensures { λ r. ⌜ endedBy r (deskOf (now (t .exit)) (now (s .exit))) (now (out .exit)) ≡ allOrNone (deskOf (now (t .entry)) (now (s .entry))) (carried how (now (name .entry)) 1 (linesOf (now (batch .entry))) (ended (deskOf (now (t .entry)) (now (s .entry))) (said 0 (page (now (out .entry)) 0)))) ⌝ }
 {
-    copy_words(t, table);
-    copy_words(s, states);
-    let ran = run_lines(table, states, how, name, batch, out);
-    if ran.status != 0 {
-        return ran;
-    }
     copy_words(table, t);
     copy_words(states, s);
-    ran
+    run_on_copies(table, states, t, s, how, name, batch, out)
 }
 
 fn has_lengths(t: &[u32], s: &[u32], batch: &[u8]) -> bool
@@ -260,5 +275,5 @@ pub fn run(
     }
     let mut table = [0u32; layout::SIZE];
     let mut states = [0u32; layout::VERTEX_LIMIT];
-    run_on_copies(&mut table, &mut states, t, s, how, name, batch, out)
+    run_copied(&mut table, &mut states, t, s, how, name, batch, out)
 }

@@ -16,7 +16,8 @@ use layout::Answer;
 use reader::value_table;
 use vertex_lines::read_vertices;
 
-fn copy_words(t: &mut [u32], words: &[u32])
+// The words of a slice in place of another's.
+pub fn copy_words(t: &mut [u32], words: &[u32])
     requires { ⌜ length (now t) ≡ length (now words) ⌝ }
     ensures { λ _. ⌜ now (t .exit) ≡ now (words .entry) ⌝ }
 {
