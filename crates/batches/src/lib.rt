@@ -1,17 +1,19 @@
 // Commands carried out, one line after the other, all or none.
 ghost use mathlib.Core.Path.{_≡_};
-ghost use mathlib.Core.List.{[]};
-ghost use Prim.Native.Nat.{_≤_, _<_};
-ghost use lib.ListN.{length, take, drop};
+ghost use Prim.Native.Nat.{_<_};
+ghost use lib.ListN.{length, take};
 ghost use Rattle.layout.specs.Layout.{limit, size, vertexLimit};
-ghost use Rattle.layout.specs.Answers.{number, detail};
+ghost use Rattle.layout.specs.Answers.{number, detail, result};
 ghost use Rattle.desk.specs.Desk.{deskOf};
-ghost use Rattle.wording.specs.Pages.{page};
-ghost use Rattle.change_sheets.specs.Changes.{telling};
-ghost use Rattle.batches.specs.Batches.{ended, listOf, listIn, told, isMisused, walkOf, walkNamed, refused, settled, commanded, lineEnd, carried, batch, runOf, hasLengths};
-use commands::Change;
+ghost use Rattle.wording.specs.Pages.{page, write};
+ghost use Rattle.messages.specs.Messages.{refusalText};
+ghost use Rattle.command_sheets.specs.Commanded.{listIn};
+ghost use Rattle.batches.specs.Batches.{walkOn, refused, settled, commanded, lineEnd, carried, linesOf, ended, said, allOrNone, hasLengths, runOf};
+ghost use Rattle.batches.specs.Runs.{saidBy, endedBy};
+use command_sheets::Manner;
 use commands::Command;
 use layout::Answer;
+use query_sheets::first;
 
 // Room for what is printed: the longest sheet is the closure of 256 tubes.
 pub const PAGE: usize = 2097152;
@@ -22,55 +24,241 @@ pub struct Ran {
     pub length: usize,
 }
 
-// How a batch is carried out: in numbers alone, as a single command, for a file that is made.
-pub struct Manner {
-    pub plain: bool,
-    pub single: bool,
-    pub makes: bool,
+// ---- a refusal
+
+// Writes the closed walk that is named where the sort met 9, and tells how many words it has.
+fn walk_named(t: &[u32], number: u32, walk: &mut [u32]) -> usize
+    ensures { λ r. ⌜ take r (now (walk .exit)) ≡ walkOn number (now (t .entry)) (now (walk .entry)) ⌝ }
+{
+    if number != 9 {
+        return 0;
+    }
+    let a = closed_walk::closed_walk(t, walk);
+    let reply = layout::reply_of(a);
+    reply.detail as usize
 }
 
-// ---- one command
-
-// The numbers behind the first.
-fn behind_first(ns: &[u32]) -> &[u32]
-    ensures { λ r. ⌜ now r ≡ drop 1 (now (ns .entry)) ⌝ }
+// The message of a refusal, by way of words for a closed walk.
+fn refuse_through(
+    walk: &mut [u32],
+    t: &[u32],
+    how: Manner,
+    name: &[u8],
+    i: u32,
+    c: Command,
+    ns: &[u32],
+    answer: Answer,
+    out: &mut [u8],
+) -> usize
+    ensures { λ r. ⌜ page (now (out .exit)) r ≡ write (refusalText (how .single) i c (listIn c (now (ns .entry))) (now (name .entry)) (walkOn (number answer) (now (t .entry)) (now (walk .entry))) (number answer) (detail answer)) (page (now (out .entry)) 0) ⌝ }
 {
-    if 1 <= ns.len() {
-        return &ns[1..];
-    }
-    ns
+    let reply = layout::reply_of(answer);
+    let k = walk_named(t, reply.number, walk);
+    let list = command_sheets::list_in(c, ns);
+    messages::put_refusal(how.single, i, c, list, name, first(walk, k), answer, out, 0)
 }
 
-// The numbers that a change takes as its list.
-fn list_of(c: Change, ns: &[u32]) -> &[u32]
-    ensures { λ r. ⌜ now r ≡ listOf c (now (ns .entry)) ⌝ }
+fn refuse(
+    t: &[u32],
+    how: Manner,
+    name: &[u8],
+    i: u32,
+    c: Command,
+    ns: &[u32],
+    answer: Answer,
+    out: &mut [u8],
+) -> Ran
+    ensures { λ r. ⌜ saidBy r (now (out .exit)) ≡ refused how (now (name .entry)) i c (now (ns .entry)) (now (t .entry)) (result answer (now (out .entry))) ⌝ }
 {
-    match c {
-        Change::Tube(_) => ns,
-        Change::Transfer(_) => behind_first(ns),
-        Change::Relist(_) => behind_first(ns),
-        Change::WithdrawTubes => ns,
-        Change::WithdrawTransfers => ns,
-        Change::Merge(_, _) => ns,
-        Change::Review(_) => ns,
-        Change::Release => ns,
+    let mut walk = [0u32; 256];
+    let n = refuse_through(&mut walk, t, how, name, i, c, ns, answer, out);
+    Ran { status: 1, length: n }
+}
+
+// ---- one line
+
+// Done where the page has room for more, else refused.
+fn settle_done(
+    t: &[u32],
+    how: Manner,
+    name: &[u8],
+    i: u32,
+    c: Command,
+    ns: &[u32],
+    next: usize,
+    out: &mut [u8],
+) -> Ran
+    ensures { λ r. ⌜ saidBy r (now (out .exit)) ≡ settled how (now (name .entry)) i c (now (ns .entry)) (now (t .entry)) (result (Answer.Done next) (now (out .entry))) ⌝ }
+{
+    if next < out.len() {
+        return Ran {
+            status: 0,
+            length: next,
+        };
+    }
+    refuse(t, how, name, i, c, ns, Answer::NoRoom(0), out)
+}
+
+// What a command answered: done, or refused.
+fn settle(
+    t: &[u32],
+    how: Manner,
+    name: &[u8],
+    i: u32,
+    c: Command,
+    ns: &[u32],
+    answer: Answer,
+    out: &mut [u8],
+) -> Ran
+    ensures { λ r. ⌜ saidBy r (now (out .exit)) ≡ settled how (now (name .entry)) i c (now (ns .entry)) (now (t .entry)) (result answer (now (out .entry))) ⌝ }
+{
+    let reply = layout::reply_of(answer);
+    if reply.number != 0 {
+        return refuse(t, how, name, i, c, ns, answer, out);
+    }
+    let next = reply.detail as usize;
+    settle_done(t, how, name, i, c, ns, next, out)
+}
+
+// The i-th line, which says the command with the numbers.
+fn run_command(
+    t: &mut [u32],
+    s: &mut [u32],
+    how: Manner,
+    name: &[u8],
+    i: u32,
+    line: &[u8],
+    c: Command,
+    ns: &[u32],
+    out: &mut [u8],
+    at: usize,
+) -> Ran
+    ensures { λ r. ⌜ endedBy r (deskOf (now (t .exit)) (now (s .exit))) (now (out .exit)) ≡ commanded how (now (name .entry)) i (now (line .entry)) c (now (ns .entry)) (deskOf (now (t .entry)) (now (s .entry))) (page (now (out .entry)) at) ⌝ }
+{
+    if command_sheets::is_misused(how, i, c) {
+        let n = misuses::put_misuse(how.single, i, c, line, out, 0);
+        return Ran { status: 2, length: n };
+    }
+    let a = command_sheets::tell(t, s, how, name, c, ns, out, at);
+    settle(t, how, name, i, c, ns, a, out)
+}
+
+fn run_line(
+    t: &mut [u32],
+    s: &mut [u32],
+    how: Manner,
+    name: &[u8],
+    i: u32,
+    line: &[u8],
+    out: &mut [u8],
+    at: usize,
+) -> Ran
+    ensures { λ r. ⌜ endedBy r (deskOf (now (t .exit)) (now (s .exit))) (now (out .exit)) ≡ lineEnd how (now (name .entry)) i (now (line .entry)) (deskOf (now (t .entry)) (now (s .entry))) (page (now (out .entry)) at) ⌝ }
+{
+    if line.len() == 0 {
+        return Ran {
+            status: 0,
+            length: at,
+        };
+    }
+    let mut numbers = [0u32; 1024];
+    let p = parse_line::parse(line, &mut numbers);
+    let c = p.command;
+    let k = p.count;
+    run_command(t, s, how, name, i, line, c, first(&numbers, k), out, at)
+}
+
+// ---- all lines
+
+fn run_lines(t: &mut [u32], s: &mut [u32], how: Manner, name: &[u8], batch: &[u8], out: &mut [u8]) -> Ran
+    requires { ⌜ length (now batch) < 4294967295 ⌝ }
+    ensures { λ r. ⌜ endedBy r (deskOf (now (t .exit)) (now (s .exit))) (now (out .exit)) ≡ carried how (now (name .entry)) 1 (linesOf (now (batch .entry))) (ended (deskOf (now (t .entry)) (now (s .entry))) (said 0 (page (now (out .entry)) 0))) ⌝ }
+{
+    let mut at = 0;
+    let mut i = 1;
+    let mut from = 0;
+    while from < batch.len() {
+        let end = text_lines::line_end(batch, from);
+        let ran = run_line(t, s, how, name, i, &batch[from..end], out, at);
+        if ran.status != 0 {
+            return ran;
+        }
+        at = ran.length;
+        i += 1;
+        from = text_lines::line_next(batch, from, end);
+    }
+    Ran {
+        status: 0,
+        length: at,
     }
 }
 
-fn list_in(c: Command, ns: &[u32]) -> &[u32]
-    ensures { λ r. ⌜ now r ≡ listIn c (now (ns .entry)) ⌝ }
+fn copy_words(from: &[u32], to: &mut [u32])
+    requires { ⌜ length (now from) ≡ length (now to) ⌝ }
+    ensures { λ _. ⌜ now (to .exit) ≡ now (from .entry) ⌝ }
 {
-    match c {
-        Command::Init => ns,
-        Command::Ask(_) => ns,
-        Command::View(_) => ns,
-        Command::Make(change) => list_of(change, ns),
-        Command::Help => ns,
-        Command::HelpOn(_) => ns,
-        Command::Version => ns,
-        Command::Unknown => ns,
-        Command::NotNumber(_) => ns,
-        Command::WrongCount(_) => ns,
-        Command::TooMany => ns,
+    let mut i = 0;
+    while i < from.len() {
+        to[i] = from[i];
+        i += 1;
     }
+}
+
+// The lines are carried out on copies, which become table and states where every line is done.
+fn run_on_copies(
+    table: &mut [u32],
+    states: &mut [u32],
+    t: &mut [u32],
+    s: &mut [u32],
+    how: Manner,
+    name: &[u8],
+    batch: &[u8],
+    out: &mut [u8],
+) -> Ran
+    requires { ⌜ (length (now table) ≡ length (now t)) × (length (now states) ≡ length (now s)) × (length (now batch) < 4294967295) ⌝ }
+    ensures { λ r. ⌜ endedBy r (deskOf (now (t .exit)) (now (s .exit))) (now (out .exit)) ≡ allOrNone (deskOf (now (t .entry)) (now (s .entry))) (carried how (now (name .entry)) 1 (linesOf (now (batch .entry))) (ended (deskOf (now (t .entry)) (now (s .entry))) (said 0 (page (now (out .entry)) 0)))) ⌝ }
+{
+    copy_words(t, table);
+    copy_words(s, states);
+    let ran = run_lines(table, states, how, name, batch, out);
+    if ran.status != 0 {
+        return ran;
+    }
+    copy_words(table, t);
+    copy_words(states, s);
+    ran
+}
+
+fn has_lengths(t: &[u32], s: &[u32], batch: &[u8]) -> bool
+    ensures { λ r. ⌜ r ≡ hasLengths (now (batch .entry)) (deskOf (now (t .entry)) (now (s .entry))) ⌝ }
+{
+    if t.len() != layout::SIZE {
+        return false;
+    }
+    if s.len() != layout::VERTEX_LIMIT {
+        return false;
+    }
+    batch.len() < 4294967295
+}
+
+// Carries out a batch: every line, or, where one is refused or misused, none. The page has the sheets, or the message.
+pub fn run(
+    t: &mut [u32],
+    s: &mut [u32],
+    how: Manner,
+    name: &[u8],
+    batch: &[u8],
+    out: &mut [u8],
+) -> Ran
+    ensures { λ r. ⌜ endedBy r (deskOf (now (t .exit)) (now (s .exit))) (now (out .exit)) ≡ runOf how (now (name .entry)) (now (batch .entry)) (deskOf (now (t .entry)) (now (s .entry))) (now (out .entry)) ⌝ }
+{
+    if !has_lengths(t, s, batch) {
+        return Ran {
+            status: 2,
+            length: 0,
+        };
+    }
+    let mut table = [0u32; layout::SIZE];
+    let mut states = [0u32; layout::VERTEX_LIMIT];
+    run_on_copies(&mut table, &mut states, t, s, how, name, batch, out)
 }

@@ -66,6 +66,7 @@ walkText [] = []
 walkText (v ∷ []) = filled (text ": tube A leads back to itself") (v ∷ []) []
 walkText (v ∷ w ∷ vs) = text ": tubes " ++ (joined (v ∷ w ∷ vs) ++ filled (text " lead back to A") (v ∷ w ∷ vs) [])
 
+-- why there is no order
 unfoldable pub noOrder : List ℕ → List ℕ
 noOrder walk = text "no order" ++ (walkText walk ++ text " (9)")
 

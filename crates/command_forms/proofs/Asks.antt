@@ -1,7 +1,9 @@
 -- What a command asks for by its number, and how many numbers it takes. Assumes nothing.
 use mathlib.Core.Path.{_≡_, sym, ap}
 use mathlib.Core.Bool.{true, false}
+use mathlib.Core.List.{List, [], _∷_}
 use Prim.Native.Nat.{ℕ, _≤_, _<_}
+use lib.ListN.{getD}
 use borrow.Author.Tests.{le-leb, lt-leb}
 use Rattle.lists.proofs.Cases.{and-both, and-false-left, and-false-right}
 use Rattle.commands.specs.Commands.{formAt, takes}
@@ -11,16 +13,22 @@ form-at a b c e = ap (λ (i : ℕ). formAt i .asks a b c) (sym e)
 
 -- ---- the count of numbers
 
-module _ (k n : ℕ) where
-  pub takes-few : (least : ℕ) → least ≡ formAt k .least → n < least → false ≡ takes k n
-  unfolding takes
-  takes-few least e h = sym (and-false-left _ _ (lt-leb (formAt k .least) n (rw (← e) h)))
+module _ (k n : ℕ) (counts : List ℕ) (e : counts ≡ formAt k .least ∷ formAt k .most ∷ []) where
+  least : getD counts 0 0 ≡ formAt k .least
+  least = ap (λ (l : List ℕ). getD l 0 0) e
 
-  pub takes-many : (most : ℕ) → most ≡ formAt k .most → most < n → false ≡ takes k n
-  unfolding takes
-  takes-many most e h = sym (and-false-right _ _ (lt-leb n (formAt k .most) (rw (← e) h)))
+  most : getD counts 1 0 ≡ formAt k .most
+  most = ap (λ (l : List ℕ). getD l 1 0) e
 
-  pub takes-so : (least most : ℕ) → least ≡ formAt k .least → most ≡ formAt k .most → least ≤ n → n ≤ most → true ≡ takes k n
+  pub takes-few : n < getD counts 0 0 → false ≡ takes k n
   unfolding takes
-  takes-so least most e f h l =
-      sym (and-both _ _ (le-leb (formAt k .least) n (rw (← e) h)) (le-leb n (formAt k .most) (rw (← f) l)))
+  takes-few h = sym (and-false-left _ _ (lt-leb (formAt k .least) n (rw (← least) h)))
+
+  pub takes-many : getD counts 1 0 < n → false ≡ takes k n
+  unfolding takes
+  takes-many h = sym (and-false-right _ _ (lt-leb n (formAt k .most) (rw (← most) h)))
+
+  pub takes-so : getD counts 0 0 ≤ n → n ≤ getD counts 1 0 → true ≡ takes k n
+  unfolding takes
+  takes-so h l =
+      sym (and-both _ _ (le-leb (formAt k .least) n (rw (← least) h)) (le-leb n (formAt k .most) (rw (← most) l)))

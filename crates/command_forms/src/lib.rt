@@ -1,5 +1,6 @@
 // What each command asks for, and how many numbers it takes.
 ghost use mathlib.Core.Path.{_≡_};
+ghost use mathlib.Core.List.{[], _∷_};
 ghost use Prim.Native.Nat.{_≤_, _<_};
 ghost use Rattle.commands.specs.Commands.{commandCount, formAt, takes};
 use commands::COMMANDS;
@@ -12,76 +13,40 @@ use layout::HyperedgeIndex;
 use layout::VertexIndex;
 
 // The least and the largest count of numbers of each command.
-const LEAST: [usize; COMMANDS] = [
-    0,
-    0,
-    1,
-    1,
-    0,
-    1,
-    1,
-    1,
-    1,
-    1,
-    2,
-    0,
-    2,
-    1,
-    1,
-    1,
-    1,
-    1,
-    0,
-    0,
-    0,
-    0,
-    0,
-    0,
-    1,
-    1,
-    3,
-    1,
-    1,
-    0,
-    0,
-    0,
-    0,
-];
-
-const AT_MOST: [usize; COMMANDS] = [
-    0,
-    0,
-    1,
-    1,
-    0,
-    1,
-    MOST,
-    MOST,
-    MOST,
-    MOST,
-    2,
-    0,
-    2,
-    1,
-    1,
-    1,
-    1,
-    1,
-    0,
-    0,
-    0,
-    0,
-    0,
-    0,
-    1,
-    1,
-    3,
-    1,
-    MOST,
-    MOST,
-    0,
-    0,
-    0,
+const COUNTS: [[usize; 2]; COMMANDS] = [
+    [0, 0], // init
+    [0, 0], // check
+    [1, 1], // show tube
+    [1, 1], // show transfer
+    [0, 0], // show
+    [1, 1], // tube
+    [1, MOST], // transfer
+    [1, MOST], // relist
+    [1, MOST], // withdraw tube
+    [1, MOST], // withdraw transfer
+    [2, 2], // merge
+    [0, 0], // sort
+    [2, 2], // path
+    [1, 1], // costs
+    [1, 1], // upstream
+    [1, 1], // downstream
+    [1, 1], // next
+    [1, 1], // before
+    [0, 0], // components
+    [0, 0], // strong
+    [0, 0], // closure
+    [0, 0], // cut
+    [0, 0], // orphans
+    [0, 0], // endpoints
+    [1, 1], // find tube
+    [1, 1], // find transfer
+    [3, 3], // walk
+    [1, 1], // review
+    [1, MOST], // release
+    [0, MOST], // order
+    [0, 0], // states
+    [0, 0], // help
+    [0, 0], // version
 ];
 
 // Commands 0 to 4: init, check and what is shown.
@@ -202,18 +167,12 @@ pub fn command_of(k: usize, a: u32, b: u32, c: u32) -> Command
     others(k, a, b, c)
 }
 
-fn least_count(k: usize) -> usize
+// The least and the largest count of numbers of command k.
+fn counts_of(k: usize) -> [usize; 2]
     requires { ⌜ k < commandCount ⌝ }
-    ensures { λ r. ⌜ r ≡ formAt k .least ⌝ }
+    ensures { λ r. ⌜ r ≡ formAt k .least ∷ formAt k .most ∷ [] ⌝ }
 {
-    LEAST[k]
-}
-
-fn most_count(k: usize) -> usize
-    requires { ⌜ k < commandCount ⌝ }
-    ensures { λ r. ⌜ r ≡ formAt k .most ⌝ }
-{
-    AT_MOST[k]
+    COUNTS[k]
 }
 
 // Whether command k takes so many numbers.
@@ -221,10 +180,11 @@ pub fn takes(k: usize, n: usize) -> bool
     requires { ⌜ k < commandCount ⌝ }
     ensures { λ r. ⌜ r ≡ takes k n ⌝ }
 {
-    if n < least_count(k) {
+    let counts = counts_of(k);
+    if n < counts[0] {
         return false;
     }
-    if most_count(k) < n {
+    if counts[1] < n {
         return false;
     }
     true

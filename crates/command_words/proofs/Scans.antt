@@ -1,11 +1,11 @@
 -- The words of a line, one after the other, and their numbers stored. Assumes nothing.
 use mathlib.Core.Path.{_≡_, refl, sym, ap, ap₂, _∙_}
-use mathlib.Core.Bool.{Bool, true, false, cond}
+use mathlib.Core.Bool.{true, false}
 use mathlib.Core.List.{List, [], _∷_, _++_, append-assoc, append-nil}
-use Prim.Native.Nat.{ℕ, zero, suc, _+_, _-_, _≤_, _<_}
+use Prim.Native.Nat.{ℕ, suc, _+_, _-_, _≤_, _<_}
 use native.Mathlib.Numerals.{add-one}
 use native.Mathlib.Omega.{arith}
-use lib.Dec.{eqb, ltb}
+use lib.Dec.{eqb}
 use lib.ListN.{length, set, take, drop, length-append, length-take, length-drop, drop-of-length-le}
 use lib.Seq.{drop-cons, drop-drop, take-all, take-append-le}
 use borrow.Author.Tests.{leb-true, lt-ltb, le-ltb}
@@ -13,7 +13,6 @@ use Rattle.lists.specs.Tests.{_and_}
 use Rattle.lists.specs.Lists.{all, over}
 use Rattle.lists.proofs.Cases.{on, on-below, and-right}
 use Rattle.lists.proofs.Chosen.{over-none, over-more, over-length}
-use Rattle.command_words.specs.declared.Scanned.{Scanned}
 use Rattle.commands.specs.Words.{blank, onto, split, wordsBehind, largest, valueOf, isNumber, leading}
 use Rattle.commands.specs.Commands.{mostNumbers}
 use Rattle.command_words.specs.Scans.{firstWord, worth, stored, faultIn, Scanning}

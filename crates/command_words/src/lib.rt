@@ -10,7 +10,7 @@ use commands::MOST;
 // The largest number, and what stands for a word that is none.
 const LARGEST: usize = 4294967295;
 
-const NO_NUMBER: usize = LARGEST + 1;
+const NO_NUMBER: usize = 4294967296;
 
 // The end of the word that begins at a place: the next blank, or the end of the line.
 fn word_end(line: &[u8], from: usize) -> usize

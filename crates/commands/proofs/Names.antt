@@ -1,17 +1,17 @@
 -- The names: the table of the code, a line that opens with one, the first of them that a line opens with. Assumes nothing.
 use mathlib.Core.Path.{_≡_, refl, sym, ap, _∙_}
-use mathlib.Core.Bool.{Bool, true, false, cond, not, _||_}
-use mathlib.Core.List.{List, [], _∷_, _++_}
+use mathlib.Core.Bool.{Bool, true, false, not}
+use mathlib.Core.List.{List, [], _∷_}
 use Prim.Native.Nat.{ℕ, zero, suc, _+_, _-_, _≤_, _<_, suc-le-suc}
 use native.Mathlib.Nat.{zero-lt-suc}
 use native.Mathlib.Omega.{arith}
-use lib.Dec.{eqb, ltb, leb}
+use lib.Dec.{ltb}
 use lib.ListN.{length, getD, take, drop, replicate, length-append, length-take}
 use lib.Seq.{take-at, take-all}
-use borrow.Author.Tests.{ltb-true, leb-true, not-true, not-false, le-leb, lt-leb, eq-eqb, ne-eqb}
+use borrow.Author.Tests.{ltb-true, not-true, not-false, le-leb, lt-leb, eq-eqb, ne-eqb}
 use Rattle.lists.specs.Tests.{_and_, every}
-use Rattle.lists.specs.Lists.{sameList, wordAt, tab}
-use Rattle.lists.proofs.Cases.{on, on-same, on-below, and-both, and-left, and-right, and-false-left, and-false-right}
+use Rattle.lists.specs.Lists.{sameList, tab}
+use Rattle.lists.proofs.Cases.{on, on-same, on-below, and-both, and-left, and-false-left, and-false-right}
 use Rattle.lists.proofs.Every.{every-at}
 use Rattle.lists.proofs.Tab.{length-tab, getD-tab}
 use Rattle.layout.specs.declared.Found.{Found}
@@ -67,20 +67,16 @@ module _ (line name : List ℕ) where
 -- ---- the table of the code
 
 module _ (k : ℕ) (h : k < commandCount) where
-  long : ℕ → Bool
-  long i = ltb 0 (length (nameAt i)) and leb (length (nameAt i)) widest
+  some : ℕ → Bool
+  some i = ltb 0 (length (nameAt i))
 
-  long-all : every long commandCount ≡ true
-  unfolding every _and_ long forms formAt nameAt
-  long-all = refl
+  some-all : every some commandCount ≡ true
+  unfolding every _and_ some forms formAt nameAt
+  some-all = refl
 
   name-some : 0 < length (nameAt k)
-  unfolding long
-  name-some = ltb-true 0 (length (nameAt k)) (and-left _ _ (every-at long commandCount k long-all h))
-
-  name-fits : length (nameAt k) ≤ widest
-  unfolding long
-  name-fits = leb-true (length (nameAt k)) widest (and-right _ _ (every-at long commandCount k long-all h))
+  unfolding some
+  name-some = ltb-true 0 (length (nameAt k)) (every-at some commandCount k some-all h)
 
   module _ (name : List ℕ) (n : ℕ) (e : name ≡ padded k) (l : n ≡ length (nameAt k)) where
     pub prefix-is : take n name ≡ nameAt k

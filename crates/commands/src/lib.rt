@@ -116,39 +116,39 @@ const NAMES: [[u8; 17]; COMMANDS] = [
 ];
 
 const LENGTHS: [usize; COMMANDS] = [
-    4,
-    5,
-    9,
-    13,
-    4,
-    4,
-    8,
-    6,
-    13,
-    17,
-    5,
-    4,
-    4,
-    5,
-    8,
-    10,
-    4,
-    6,
-    10,
-    6,
-    7,
-    3,
-    7,
-    9,
-    9,
-    13,
-    4,
-    6,
-    7,
-    5,
-    6,
-    4,
-    7,
+    4, // init
+    5, // check
+    9, // show tube
+    13, // show transfer
+    4, // show
+    4, // tube
+    8, // transfer
+    6, // relist
+    13, // withdraw tube
+    17, // withdraw transfer
+    5, // merge
+    4, // sort
+    4, // path
+    5, // costs
+    8, // upstream
+    10, // downstream
+    4, // next
+    6, // before
+    10, // components
+    6, // strong
+    7, // closure
+    3, // cut
+    7, // orphans
+    9, // endpoints
+    9, // find tube
+    13, // find transfer
+    4, // walk
+    6, // review
+    7, // release
+    5, // order
+    6, // states
+    4, // help
+    7, // version
 ];
 
 // What a line asks for, and how many numbers it has.

@@ -15,6 +15,7 @@ callLines = text "vaultsorrel FILE COMMAND ..      one command\nvaultsorrel FILE
 unfoldable pub fileLines : List ℕ
 fileLines = text "\nFILE is a frame text; - is standard input where nothing is written back. FILE.desk has the states.\nExit status: 0 done, 1 refused, 2 misused, 3 a file could not be read or written.\n"
 
+-- all of the help
 unfoldable pub helpText : List ℕ
 helpText = callLines ++ (commandLines ++ fileLines)
 
@@ -22,5 +23,6 @@ helpText = callLines ++ (commandLines ++ fileLines)
 unfoldable pub helpOn : ℕ → List ℕ
 helpOn k = lineAt k commandLines ++ text "\n"
 
+-- the version
 unfoldable pub versionText : List ℕ
 versionText = text "vaultsorrel 0.2.0\n"

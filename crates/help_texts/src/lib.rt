@@ -2,7 +2,7 @@
 ghost use mathlib.Core.Path.{_≡_};
 ghost use Rattle.wording.specs.Pages.{page, write};
 ghost use Rattle.text_lines.specs.Lines.{lineAt};
-ghost use Rattle.help_texts.specs.Help.{commandLines, helpText, helpOn, versionText};
+ghost use Rattle.help_texts.specs.Help.{helpText, helpOn, versionText};
 use text_lines::line_end;
 use text_lines::line_from;
 use wording::put_byte;

@@ -1,20 +1,15 @@
 -- Laws of messages: their parts, one after the other. Assumes nothing.
-use mathlib.Core.Path.{_≡_, refl, sym, ap, _∙_}
-use mathlib.Core.Bool.{Bool, true, false, not}
+use mathlib.Core.Path.{_≡_}
+use mathlib.Core.Bool.{Bool, true, false}
 use mathlib.Core.List.{List, [], _∷_, _++_}
 use Prim.Native.Nat.{ℕ}
-use types.Run.{OneOf, miss}
-use denote.Enum.Declared.{tagOf}
 use Rattle.wording.specs.Texts.{text}
 use Rattle.wording.specs.Pages.{Page, page, write}
 use Rattle.wording.specs.Forms.{filled}
-use Rattle.wording.proofs.Writing.{nothing-written, then}
-use Rattle.commands.proofs.Command as commands
+use Rattle.wording.proofs.Writing.{then}
 use Rattle.commands.specs.declared.Command.{Command}
-use Rattle.commands.specs.declared.Command.the-variants.{Init, Ask, View, Make, Help, HelpOn, Version, Unknown, NotNumber, WrongCount, TooMany}
-use Rattle.help_texts.specs.Help.{helpOn}
 use Rattle.causes.specs.Causes.{cause, isChange, causeText}
-use Rattle.messages.specs.Messages.{opening, ending, anyChange, couldChange, refusalText, spoken, usageText, misuseText, faultEnding, faultyText}
+use Rattle.messages.specs.Messages.{opening, ending, anyChange, couldChange, refusalText, faultEnding, faultyText}
 
 -- ---- one of two texts
 
@@ -43,11 +38,6 @@ module _ (p e : Page) where
   unfolding faultEnding
   fault-plain b h w = rw h w
 
-  -- the text of a command is that of the same command
-  pub as-misuse : (single : Bool) (line : ℕ) (said : List ℕ) (c d : Command) → c ≡ d → e ≡ write (misuseText single line d said) p
-      → e ≡ write (misuseText single line c said) p
-  as-misuse single line said c d h w = rw h w
-
 -- ---- what could have changed something
 
 module _ (single : Bool) (c : Command) where
@@ -62,7 +52,7 @@ module _ (single : Bool) (c : Command) where
 -- ---- one text after another
 
 module _ (p : Page) (b d e : List ℕ) (r q s : ℕ) where
-  then-then : (xs ys zs : List ℕ) → page b r ≡ write xs p → page d q ≡ write ys (page b r) → page e s ≡ write zs (page d q)
+  pub then-then : (xs ys zs : List ℕ) → page b r ≡ write xs p → page d q ≡ write ys (page b r) → page e s ≡ write zs (page d q)
       → page e s ≡ write (xs ++ (ys ++ zs)) p
   then-then xs ys zs f g h = then p b e xs (ys ++ zs) r s f (then (page b r) d e ys zs q s g h)
 
@@ -72,36 +62,7 @@ module _ (p : Page) (b d e : List ℕ) (r q s : ℕ) where
   unfolding refusalText
   refusal-put single line c list name walk n dt number detail could x y z f g h = rw (← x, ← y, ← z) (then-then _ _ _ f g h)
 
-  pub spoken-put : (single : Bool) (line : ℕ) (form ns said : List ℕ) → page b r ≡ write (opening single line) p
-      → page d q ≡ write (filled form ns said) (page b r) → page e s ≡ write (ending (not single)) (page d q)
-      → page e s ≡ write (spoken single line form ns said) p
-  unfolding spoken
-  spoken-put single line form ns said f g h = then-then _ _ _ f g h
-
-  pub usage-put : (single : Bool) (line k : ℕ) → page b r ≡ write (opening single line) p
-      → page d q ≡ write (text "usage: vaultsorrel FILE ") (page b r) → page e s ≡ write (helpOn k) (page d q)
-      → page e s ≡ write (usageText single line k) p
-  unfolding usageText
-  usage-put single line k f g h = then-then _ (text "usage: vaultsorrel FILE ") _ f g h
-
   pub faulty-put : (name : List ℕ) (line : ℕ) (crlf : Bool) → page b r ≡ write (opening true 0) p → page d q ≡ write (cause 12 line [] name) (page b r)
       → page e s ≡ write (faultEnding crlf) (page d q) → page e s ≡ write (faultyText name line crlf) p
   unfolding faultyText
   faulty-put name line crlf f g h = then-then _ _ _ f g h
-
--- ---- commands of which nothing is said
-
-pub no-misuse : (single : Bool) (line : ℕ) (said b : List ℕ) (at : ℕ) (c : Command) → OneOf (1 ∷ 2 ∷ 3 ∷ 4 ∷ 5 ∷ 6 ∷ []) (tagOf commands.the-type c)
-    → page b at ≡ write (misuseText single line c said) (page b at)
-unfolding misuseText
-no-misuse single line said b at Init k = absurd (miss (1 ∷ 2 ∷ 3 ∷ 4 ∷ 5 ∷ 6 ∷ []) 0 tt k)
-no-misuse single line said b at (Ask q) k = nothing-written b at
-no-misuse single line said b at (View l) k = nothing-written b at
-no-misuse single line said b at (Make m) k = nothing-written b at
-no-misuse single line said b at Help k = nothing-written b at
-no-misuse single line said b at (HelpOn n) k = nothing-written b at
-no-misuse single line said b at Version k = nothing-written b at
-no-misuse single line said b at Unknown k = absurd (miss (1 ∷ 2 ∷ 3 ∷ 4 ∷ 5 ∷ 6 ∷ []) 7 tt k)
-no-misuse single line said b at (NotNumber i) k = absurd (miss (1 ∷ 2 ∷ 3 ∷ 4 ∷ 5 ∷ 6 ∷ []) 8 tt k)
-no-misuse single line said b at (WrongCount n) k = absurd (miss (1 ∷ 2 ∷ 3 ∷ 4 ∷ 5 ∷ 6 ∷ []) 9 tt k)
-no-misuse single line said b at TooMany k = absurd (miss (1 ∷ 2 ∷ 3 ∷ 4 ∷ 5 ∷ 6 ∷ []) 10 tt k)

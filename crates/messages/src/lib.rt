@@ -1,20 +1,19 @@
-// What is said of a line of commands that was not carried out, and of a file that has a faulty line, written on a page.
+// What is said of a command that was refused, and of a file that has a faulty line, written on a page.
 ghost use mathlib.Core.Path.{_≡_};
 ghost use Rattle.layout.specs.Answers.{number, detail};
 ghost use Rattle.wording.specs.Pages.{page, write};
 ghost use Rattle.causes.specs.Causes.{isChange};
-ghost use Rattle.messages.specs.Messages.{opening, ending, anyChange, couldChange, refusalText, spoken, numberText, usageText, misuseText, faultEnding, faultyText};
+ghost use Rattle.messages.specs.Messages.{opening, ending, anyChange, couldChange, refusalText, faultEnding, faultyText};
 use causes::put_cause;
 use causes::put_why;
 use commands::Command;
-use help_texts::put_help_on;
 use layout::Answer;
 use layout::reply_of;
 use wording::put_form;
 use wording::put_text;
 
 // How a message begins.
-fn put_opening(out: &mut [u8], at: usize, single: bool, line: u32) -> usize
+pub fn put_opening(out: &mut [u8], at: usize, single: bool, line: u32) -> usize
     ensures { λ r. ⌜ page (now (out .exit)) r ≡ write (opening single line) (page (now (out .entry)) at) ⌝ }
 {
     if single {
@@ -25,7 +24,7 @@ fn put_opening(out: &mut [u8], at: usize, single: bool, line: u32) -> usize
 }
 
 // How it ends.
-fn put_ending(out: &mut [u8], at: usize, change: bool) -> usize
+pub fn put_ending(out: &mut [u8], at: usize, change: bool) -> usize
     ensures { λ r. ⌜ page (now (out .exit)) r ≡ write (ending change) (page (now (out .entry)) at) ⌝ }
 {
     if change {
@@ -73,94 +72,6 @@ pub fn put_refusal(
     let a = put_opening(out, at, single, line);
     let b = put_why(out, a, c, list, name, walk, reply.number, reply.detail);
     put_ending(out, b, could_change(single, c))
-}
-
-// What is wrong with a line, as a form with its numbers and the line itself.
-fn put_spoken(
-    out: &mut [u8],
-    at: usize,
-    single: bool,
-    line: u32,
-    form: &[u8],
-    ns: &[u32],
-    text: &[u8],
-) -> usize
-    ensures { λ r. ⌜ page (now (out .exit)) r ≡ write (spoken single line (now (form .entry)) (now (ns .entry)) (now (text .entry))) (page (now (out .entry)) at) ⌝ }
-{
-    let a = put_opening(out, at, single, line);
-    let b = put_form(out, a, form, ns, text);
-    put_ending(out, b, !single)
-}
-
-// A word that is no number.
-fn put_no_number(out: &mut [u8], at: usize, single: bool, line: u32, p: usize, text: &[u8]) -> usize
-    ensures { λ r. ⌜ page (now (out .exit)) r ≡ write (numberText single line p (now (text .entry))) (page (now (out .entry)) at) ⌝ }
-{
-    let ns = [(p % 4294967296) as u32, (p / 4294967296) as u32];
-    put_spoken(
-        out,
-        at,
-        single,
-        line,
-        b"argument K of 'U' is no number from 0 to 4294967295",
-        &ns,
-        text,
-    )
-}
-
-// The usage of a command.
-fn put_usage(out: &mut [u8], at: usize, single: bool, line: u32, k: usize) -> usize
-    ensures { λ r. ⌜ page (now (out .exit)) r ≡ write (usageText single line k) (page (now (out .entry)) at) ⌝ }
-{
-    let a = put_opening(out, at, single, line);
-    let b = put_text(out, a, b"usage: vaultsorrel FILE ");
-    put_help_on(k, out, b)
-}
-
-// What is said of a line that is no command, or of `init` where it can't stand. The text is the line itself.
-pub fn put_misuse(
-    single: bool,
-    line: u32,
-    c: Command,
-    text: &[u8],
-    out: &mut [u8],
-    at: usize,
-) -> usize
-    ensures { λ r. ⌜ page (now (out .exit)) r ≡ write (misuseText single line c (now (text .entry))) (page (now (out .entry)) at) ⌝ }
-{
-    let none: [u32; 0] = [];
-    match c {
-        Command::Unknown => put_spoken(
-            out,
-            at,
-            single,
-            line,
-            b"'U' is no command; help lists them",
-            &none,
-            text,
-        ),
-        Command::TooMany => put_spoken(
-            out,
-            at,
-            single,
-            line,
-            b"a line takes at most 1024 numbers",
-            &none,
-            text,
-        ),
-        Command::Init => put_spoken(
-            out,
-            at,
-            single,
-            line,
-            b"init makes a file that is not there yet, and stands first",
-            &none,
-            text,
-        ),
-        Command::NotNumber(p) => put_no_number(out, at, single, line, p, text),
-        Command::WrongCount(k) => put_usage(out, at, single, line, k),
-        _ => at,
-    }
 }
 
 // How what is said of a faulty line ends.

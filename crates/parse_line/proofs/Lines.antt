@@ -1,13 +1,13 @@
 -- A line read whole: what was read of its words is what it asks for. Assumes nothing.
-use mathlib.Core.Path.{_≡_, refl, sym, ap, ap₂, _∙_}
-use mathlib.Core.Bool.{Bool, true, false, cond}
-use mathlib.Core.List.{List, [], _∷_, _++_}
-use Prim.Native.Nat.{ℕ, zero, suc, min, _-_, _≤_, _<_}
+use mathlib.Core.Path.{_≡_, refl, sym, ap, _∙_}
+use mathlib.Core.Bool.{cond}
+use mathlib.Core.List.{List}
+use Prim.Native.Nat.{ℕ, suc, min, _-_, _≤_}
 use native.Mathlib.Omega.{arith}
-use lib.Dec.{eqb, ltb}
+use lib.Dec.{ltb}
 use lib.ListN.{length, take, drop, length-take}
 use lib.Seq.{take-at, take-all}
-use borrow.Author.Tests.{lt-ltb, le-ltb, eq-eqb, ne-eqb}
+use borrow.Author.Tests.{lt-ltb, eq-eqb, ne-eqb}
 use Rattle.lists.specs.Lists.{all, wordAt, over}
 use Rattle.lists.proofs.Cases.{on, on-below}
 use Rattle.lists.proofs.Chosen.{over-none, over-length}
@@ -15,7 +15,7 @@ use Rattle.lists.proofs.Parts.{part-tail}
 use Rattle.layout.specs.declared.Found.{Found}
 use Rattle.layout.specs.declared.Found.the-variants.{At, Nothing}
 use Rattle.commands.specs.declared.Command.{Command}
-use Rattle.commands.specs.declared.Command.the-variants.{Unknown, NotNumber, WrongCount, TooMany}
+use Rattle.commands.specs.declared.Command.the-variants.{Unknown, WrongCount, TooMany}
 use Rattle.commands.specs.declared.Parsed.{Parsed}
 use Rattle.command_words.specs.declared.Scanned.{Scanned}
 use Rattle.commands.specs.Words.{wordsBehind, isNumber, leading}

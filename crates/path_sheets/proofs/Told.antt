@@ -1,64 +1,24 @@
 -- What the call that lists a path answered, and the answer of the sheet. Assumes nothing.
-use mathlib.Core.Path.{_≡_, refl, sym, ap, ap₂, _∙_}
+use mathlib.Core.Path.{_≡_, refl, sym, ap, _∙_}
 use mathlib.Core.Bool.{Bool, true, false}
-use mathlib.Core.List.{List, [], _∷_, _++_}
+use mathlib.Core.List.{List, [], _∷_}
 use mathlib.Core.Option.{Option, none, some}
-use Prim.Native.Nat.{ℕ, zero, suc, _+_, _*_, _-_, _≤_, _<_}
-use native.Mathlib.Nat.{sub-zero}
+use Prim.Native.Nat.{ℕ, _-_, _≤_}
 use native.Mathlib.Omega.{arith}
-use lib.ListN.{length, getD, take, drop, replicate, length-replicate, length-append}
-use lib.Seq.{take-append-seam}
-use borrow.Author.Tests.{le-leb}
-use Rattle.lists.specs.Lists.{over}
-use Rattle.lists.proofs.Cases.{on, and-both}
+use lib.ListN.{length, take, drop, replicate, length-replicate}
+use Rattle.lists.proofs.Cases.{on}
 use Rattle.layout.specs.declared.Answer.{Answer}
 use Rattle.layout.specs.declared.Answer.the-variants.{Done}
-use Rattle.layout.specs.Content.{Table, liveVertices, isLive}
+use Rattle.layout.specs.Content.{liveVertices, isLive}
 use Rattle.layout.specs.Layout.{limit, read}
-use Rattle.layout.specs.WellFormed.{wellFormed}
 use Rattle.layout.specs.Inner.{Formed}
 use Rattle.layout.specs.Answers.{number, detail, Result, result, onFormed, onLive, vertexMissing, listed}
-use Rattle.layout.proofs.Shape.{shaped-by}
-use Rattle.layout.proofs.Answers.{formed-result}
 use Rattle.paths.specs.Paths.{bestPath, pathWords, pairResult}
 use Rattle.paths.proofs.Theorems.{path-is-best, best-steps, count-of-entries}
 use Rattle.wording.specs.Pages.{Page, page, write}
 use Rattle.saying.specs.Saying.{paged}
+use Rattle.saying.proofs.Listings.{on-content, relent, listing-done, listing-words, listing-within}
 use Rattle.path_sheets.specs.Path.{pathSheet, pathResult}
-
--- ---- of any call
-
--- a call on a table that is formed answers of its content
-pub on-content : (ws lent : List ℕ) (g : Table → Result) → Formed limit ws → onFormed ws lent g ≡ g (read limit ws)
-unfolding wellFormed
-on-content ws lent g f = formed-result ws lent g (and-both _ _ (shaped-by limit ws (f .shape)) (f .content))
-
--- the same answer, with other words lent
-relent : (a b : Answer) (w v z : List ℕ) → result a w ≡ result b v → result a z ≡ result b z
-relent a b w v z e = ap (λ (r : Result). record { number = r .number; detail = r .detail; lent = z }) e
-
--- a listing that fits
-module _ (xs lent : List ℕ) (h : length xs ≤ length lent) (a : Answer) (w : List ℕ) (e : result a w ≡ listed xs lent) where
-  fitted : result a w ≡ result (Done (length xs)) (over xs lent)
-  unfolding listed
-  fitted = rw (le-leb (length xs) (length lent) h) at e
-
-  pub listing-done : number a ≡ 0
-  listing-done = ap (λ (r : Result). r .number) fitted
-
-  pub listing-words : take (detail a) w ≡ xs
-  unfolding over
-  listing-words =
-      ap₂ take (ap (λ (r : Result). r .detail) fitted) (ap (λ (r : Result). r .lent) fitted) ∙ take-append-seam xs (drop (length xs) lent)
-
-  pub listing-within : detail a ≤ length w
-  unfolding over
-  listing-within =
-      let d : detail a ≡ length xs = ap (λ (r : Result). r .detail) fitted in
-      let l : length w ≡ length xs + length (drop (length xs) lent) = ap (λ (r : Result). length (r .lent)) fitted ∙ length-append xs (drop (length xs) lent) in
-      omega arith
-
--- ---- the path
 
 -- the words lent for it
 unfoldable pub pathRoom : List ℕ
@@ -119,11 +79,11 @@ module _ (ws : List ℕ) (f : Formed limit ws) (x y : ℕ) (a : Answer) (w : Lis
     -- d is the answer's detail
     module _ (d : ℕ) (m : d ≡ detail a) where
       pub path-within : d ≤ length w
-      path-within = rw m (listing-within words pathRoom (fits (live-both .0)) a w (both (live-both .0) (live-both .1)))
+      path-within = listing-within words pathRoom (fits (live-both .0)) a w (both (live-both .0) (live-both .1)) d m
 
       pub path-words : take (d - 0) (drop 0 w) ≡ pathWords (read limit ws) x (bestPath (read limit ws) x y)
       unfolding words
-      path-words = rw (m, sub-zero) (listing-words words pathRoom (fits (live-both .0)) a w (both (live-both .0) (live-both .1)))
+      path-words = listing-words words pathRoom (fits (live-both .0)) a w (both (live-both .0) (live-both .1)) d m
 
     pub path-done : (plain : Bool) (p : Page) (c : List ℕ) (q : ℕ) → page c q ≡ write (pathSheet plain x y (read limit ws)) p
         → result (Done q) c ≡ pathResult plain x y p (read limit ws)

@@ -9,14 +9,12 @@ use Rattle.wording.specs.Texts.{text}
 use Rattle.wording.specs.Pages.{Page, write}
 use Rattle.wording.proofs.Writing.{write-append}
 use Rattle.commands.specs.declared.Query.{Query}
+use Rattle.query_titles.specs.Titles.{title}
 use Rattle.query_lines.specs.declared.Shape.{Shape}
-use Rattle.query_lines.specs.Queries.{title, shape, entries, plainly, entriesOrNone, querySheet}
+use Rattle.query_lines.specs.Queries.{shape, entries, plainly, entriesOrNone, querySheet}
 
 pub as-shaped : (s : Shape) (q k : Query) → q ≡ k → s ≡ shape k → s ≡ shape q
 as-shaped s q k e p = p ∙ ap shape (sym e)
-
-pub as-titled : (x p : Page) (q k : Query) → q ≡ k → x ≡ write (title k) p → x ≡ write (title q) p
-as-titled x p q k e h = h ∙ ap (λ (y : Query). write (title y) p) (sym e)
 
 pub as-entered : (x p : Page) (ws : List ℕ) (s k : Shape) → s ≡ k → x ≡ write (entries k ws) p → x ≡ write (entries s ws) p
 as-entered x p ws s k e h = h ∙ ap (λ (y : Shape). write (entries y ws) p) (sym e)

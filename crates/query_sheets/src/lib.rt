@@ -11,7 +11,7 @@ use commands::Query;
 use layout::Answer;
 
 // The first n words; all of them where there are fewer.
-fn first(words: &[u32], n: usize) -> &[u32]
+pub fn first(words: &[u32], n: usize) -> &[u32]
     ensures { λ r. ⌜ now r ≡ take n (now (words .entry)) ⌝ }
 {
     if n < words.len() {

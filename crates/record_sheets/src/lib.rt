@@ -13,8 +13,8 @@ ghost use Rattle.record_sheets.specs.Inner.{lineWhere};
 use desk::REVIEWED;
 use desk::WAITING;
 use wording::put_form;
-use wording::put_line;
 use wording::put_text;
+use wording_lists::put_line;
 
 // A form whose name is that of a state.
 fn put_named(out: &mut [u8], at: usize, form: &[u8], ns: &[u32], state: u32) -> usize

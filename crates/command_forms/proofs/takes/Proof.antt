@@ -4,14 +4,17 @@ use borrow.Author.Needs.{needs}
 use Rattle.command_forms.proofs.takes.Statement.{statement}
 use Rattle.command_forms.proofs.takes.Tie as tie
 
-least-count-requires : tie.Need-least-count-requires
-least-count-requires c κs = search needs
+counts-of-requires : tie.Need-counts-of-requires
+counts-of-requires c κs = search needs
+
+array-read-if1 : tie.Need-array-read-if1
+array-read-if1 c = search needs
 
 returns : tie.Need-returns
 returns c = search takes-few
 
-most-count-requires : tie.Need-most-count-requires
-most-count-requires c κs = search needs
+array-read-if2 : tie.Need-array-read-if2
+array-read-if2 c = search needs
 
 returns-2 : tie.Need-returns-2
 returns-2 c = search takes-many
@@ -21,4 +24,5 @@ returns-3 c = search takes-so
 
 pub takes-spec : {M : Type 1} → statement M
 takes-spec =
-    tie.close (tie.spec least-count-requires returns most-count-requires returns-2 returns-3)
+    tie.close
+    (tie.spec counts-of-requires array-read-if1 returns array-read-if2 returns-2 returns-3)

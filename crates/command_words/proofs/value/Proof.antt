@@ -1,5 +1,5 @@
 -- `command_words::value` meets its contract: the worth of what is left is that of the word. Assumes nothing.
-use mathlib.Core.Path.{_≡_, refl}
+use mathlib.Core.Path.{_≡_}
 use Prim.Native.Nat.{_-_, _≤_}
 use lib.ListN.{length, drop}
 use Rattle.commands.specs.Words.{largest}

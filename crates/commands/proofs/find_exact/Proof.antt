@@ -1,12 +1,12 @@
 -- `commands::find_exact` meets its contract: what is left of the names says of all. Assumes nothing.
 use Rattle.commands.proofs.Names.{names-first, names-none, exact-none, exact-here, exact-on}
-use mathlib.Core.Path.{_≡_, refl}
+use mathlib.Core.Path.{_≡_}
 use Prim.Native.Nat.{_≤_, _<_, _-_}
 use lib.ListN.{length, drop}
 use Rattle.lists.specs.Lists.{sameList, tab}
 use Rattle.lists.proofs.Cases.{not-none}
 use Rattle.edits.specs.Results.{firstPassing, firstPassingFrom}
-use Rattle.commands.specs.Commands.{commandCount, names, nameAt, opensWith, named}
+use Rattle.commands.specs.Commands.{commandCount, names, nameAt}
 use borrow.Author.Needs.{needs}
 use Rattle.commands.proofs.find_exact.Statement.{statement}
 use Rattle.commands.proofs.find_exact.Tie as tie

@@ -1,11 +1,11 @@
 -- `commands::find_name` meets its contract: what is left of the names says of all. Assumes nothing.
 use Rattle.commands.proofs.Names.{names-first, names-none, name-here, name-on}
-use mathlib.Core.Path.{_≡_, refl}
-use Prim.Native.Nat.{_≤_, _<_, _-_}
-use lib.ListN.{length, drop}
-use Rattle.lists.specs.Lists.{sameList, tab}
-use Rattle.edits.specs.Results.{firstPassing, firstPassingFrom}
-use Rattle.commands.specs.Commands.{commandCount, names, nameAt, opensWith, named}
+use mathlib.Core.Path.{_≡_}
+use Prim.Native.Nat.{_≤_, _-_}
+use lib.ListN.{drop}
+use Rattle.lists.specs.Lists.{tab}
+use Rattle.edits.specs.Results.{firstPassingFrom}
+use Rattle.commands.specs.Commands.{commandCount, nameAt, opensWith, named}
 use borrow.Author.Needs.{needs}
 use Rattle.commands.proofs.find_name.Statement.{statement}
 use Rattle.commands.proofs.find_name.Tie as tie

@@ -1,0 +1,2 @@
+pub mod Misuses
+pub mod Examples

@@ -1,0 +1,2 @@
+pub mod StatesText
+pub mod Reading
