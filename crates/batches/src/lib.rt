@@ -72,10 +72,7 @@ fn refuse(
 {
     let mut walk = [0u32; 256];
     let n = refuse_through(&mut walk, t, how, name, i, c, ns, answer, out);
-    Ran {
-        status: 1,
-        length: n,
-    }
+    Ran { status: 1, length: n }
 }
 
 // ---- one line
@@ -140,10 +137,7 @@ fn run_command(
 {
     if command_sheets::is_misused(how, i, c) {
         let n = misuses::put_misuse(how.single, i, c, line, out, 0);
-        return Ran {
-            status: 2,
-            length: n,
-        };
+        return Ran { status: 2, length: n };
     }
     let a = command_sheets::tell(t, s, how, name, c, ns, out, at);
     settle(t, how, name, i, c, ns, a, out)
@@ -176,14 +170,7 @@ fn run_line(
 
 // ---- all lines
 
-fn run_lines(
-    t: &mut [u32],
-    s: &mut [u32],
-    how: Manner,
-    name: &[u8],
-    batch: &[u8],
-    out: &mut [u8],
-) -> Ran
+fn run_lines(t: &mut [u32], s: &mut [u32], how: Manner, name: &[u8], batch: &[u8], out: &mut [u8]) -> Ran
     requires { ⌜ length (now batch) < 4294967295 ⌝ }
     ensures { λ r. ⌜ endedBy r (deskOf (now (t .exit)) (now (s .exit))) (now (out .exit)) ≡ carried how (now (name .entry)) 1 (linesOf (now (batch .entry))) (ended (deskOf (now (t .entry)) (now (s .entry))) (said 0 (page (now (out .entry)) 0))) ⌝ }
 {

@@ -133,3 +133,4 @@ fn stands_first(how: Manner, i: u32) -> bool
     }
     i == 1
 }
+
