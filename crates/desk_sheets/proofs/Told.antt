@@ -43,8 +43,13 @@ releasableRoom = replicate 256 0
 releasable-fits : (ws ss : List ℕ) → deskFits (deskOf ws ss) ≡ true → length (releasable ss (read limit ws)) ≤ length releasableRoom
 unfolding releasable releasableRoom
 releasable-fits ws ss f =
-    omega (arith, length-replicate {A = ℕ} 256 0, filter-short (isReleasable (read limit ws) ss) (liveVertices (read limit ws)), live-length limit ws,
-    formed-of limit ws (desk-fits-of f .formed) .shape .vertices-le)
+    omega (
+      arith,
+      length-replicate {A = ℕ} 256 0,
+      filter-short (isReleasable (read limit ws) ss) (liveVertices (read limit ws)),
+      live-length limit ws,
+      formed-of limit ws (desk-fits-of f .formed) .shape .vertices-le,
+    )
 
 module _ (ws ss : List ℕ) (f : deskFits (deskOf ws ss) ≡ true) (a : Answer) (w : List ℕ)
     (e : result a w ≡ onDesk (deskOf ws ss) releasableRoom (releasableResult ss releasableRoom)) (d : ℕ) (m : d ≡ detail a) where
