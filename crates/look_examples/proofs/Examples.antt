@@ -1,8 +1,7 @@
 -- The sheets of a small table, computed. Assumes nothing.
 use mathlib.Core.Path.{_≡_, refl}
-use mathlib.Core.Bool.{Bool, true, false}
+use mathlib.Core.Bool.{true, false}
 use mathlib.Core.List.{List, [], _∷_, _++_}
-use mathlib.Core.Option.{Option}
 use Prim.Native.Nat.{ℕ}
 use Rattle.lists.specs.Tests.{_and_, every, chosen}
 use Rattle.lists.specs.Lists.{any, filter, tab, flat}
@@ -13,8 +12,7 @@ use Rattle.graph.specs.Bfs.{push, spread, run, bfs}
 use Rattle.order.specs.Least.{least}
 use Rattle.order.specs.Greedy.{available, next, rest, greedy}
 use Rattle.distance.specs.Computed.{lexLe, ahead, better, onward, bestOver, stay, bestWithin, best}
-use Rattle.components.specs.Classes.{rooted, rootsFrom, classes}
-use Rattle.steps.specs.Matrices.{undirected, listsBoth, together}
+use Rattle.steps.specs.Matrices.{undirected}
 use Rattle.structural.specs.Sort.{sortOf, acyclic}
 use Rattle.structural.specs.Components.{connected}
 use Rattle.paths.specs.Paths.{lighter, choiceAmong, choice, stepHyperedge, stepCost, bestPath, entriesAfter}

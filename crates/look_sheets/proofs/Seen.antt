@@ -4,7 +4,6 @@ use mathlib.Core.Bool.{Bool, true, false, not}
 use mathlib.Core.List.{List}
 use Prim.Native.Nat.{ℕ}
 use borrow.Author.Tests.{not-false}
-use Rattle.layout.specs.declared.Answer.{Answer}
 use Rattle.layout.specs.declared.Answer.the-variants.{Done, NotWellFormed}
 use Rattle.layout.specs.declared.VertexIndex.{VertexIndex}
 use Rattle.layout.specs.declared.HyperedgeIndex.{HyperedgeIndex}

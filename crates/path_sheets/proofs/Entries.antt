@@ -1,27 +1,27 @@
 -- The lines of a path's entries, and its sheet by the words of the listing. Assumes nothing.
-use mathlib.Core.Path.{_≡_, refl, sym, ap, _∙_}
+use mathlib.Core.Path.{_≡_, sym, ap, _∙_}
 use mathlib.Core.Bool.{Bool, true, false}
-use mathlib.Core.List.{List, [], _∷_, _++_}
+use mathlib.Core.List.{List, [], _∷_}
 use mathlib.Core.Option.{Option, none, some}
-use Prim.Native.Nat.{ℕ, zero, suc, _+_, _-_, _≤_, _<_}
+use Prim.Native.Nat.{ℕ, suc, _+_, _-_, _≤_, _<_}
 use native.Mathlib.Numerals.{add-one}
 use native.Mathlib.Omega.{arith}
-use lib.ListN.{length, getD, drop, length-drop, drop-of-length-le}
+use lib.ListN.{length, getD, drop, length-drop}
 use lib.Dec.{ltb}
 use lib.Seq.{drop-cons}
 use borrow.Author.Tests.{ltb-true}
 use Rattle.lists.specs.Lists.{zeros, tab}
 use Rattle.lists.proofs.Cases.{on-below}
-use Rattle.lists.proofs.Tab.{length-tab, getD-tab}
+use Rattle.lists.proofs.Tab.{getD-tab}
 use Rattle.lists.proofs.Flat.{zeros-part-at}
 use Rattle.lists.proofs.Parts.{part-tail}
 use Rattle.layout.specs.declared.Found.{Found}
 use Rattle.layout.specs.declared.Found.the-variants.{At, Nothing}
 use Rattle.layout.specs.Content.{Table, Hyperedge, noHyperedge, liveHyperedges, position, place}
-use Rattle.layout.specs.Layout.{limit, hyperedgesAt, hyperedgeWord, hyperedgeCount, hyperedgeAt, readHyperedges, read}
+use Rattle.layout.specs.Layout.{limit, hyperedgeWord, hyperedgeCount, hyperedgeAt, readHyperedges, read}
 use Rattle.layout.specs.WellFormed.{unusedHyperedges}
 use Rattle.layout.specs.Inner.{Formed}
-use Rattle.paths.specs.Paths.{entriesAfter, bestPath, pathWords}
+use Rattle.paths.specs.Paths.{bestPath, pathWords}
 use Rattle.reads.specs.Reads.{hyperedgeWeight}
 use Rattle.reads.proofs.Told.{cost-here}
 use Rattle.wording.specs.Texts.{text}
