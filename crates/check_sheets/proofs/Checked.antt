@@ -1,5 +1,5 @@
 -- The sheet of a check, from what the code was told and wrote. Assumes nothing.
-use mathlib.Core.Path.{_≡_, refl, sym, ap, _∙_}
+use mathlib.Core.Path.{_≡_, refl, ap, _∙_}
 use mathlib.Core.Bool.{Bool, true, false}
 use mathlib.Core.List.{List, [], _∷_}
 use Prim.Native.Nat.{ℕ}
@@ -8,7 +8,7 @@ use Rattle.lists.specs.Tests.{bit}
 use Rattle.lists.proofs.Tab.{length-tab}
 use Rattle.layout.specs.declared.Answer.{Answer}
 use Rattle.layout.specs.Content.{Table}
-use Rattle.layout.specs.Layout.{limit, nextVertexIn, nextHyperedgeIn, vertexCount, hyperedgeCount, vertexAt, hyperedgeAt, read}
+use Rattle.layout.specs.Layout.{limit, nextVertexIn, nextHyperedgeIn, vertexCount, hyperedgeCount, read}
 use Rattle.layout.specs.Inner.{Formed}
 use Rattle.layout.specs.Answers.{detail, Result, result, onFormed}
 use Rattle.structural.specs.Components.{connected, connectedResult}
@@ -18,7 +18,7 @@ use Rattle.wording.specs.Pages.{Page, page, write}
 use Rattle.wording.specs.Forms.{filled}
 use Rattle.wording.proofs.Writing.{then}
 use Rattle.saying.proofs.Listings.{on-content}
-use Rattle.check_sheets.specs.Check.{yesNo, checked, checkSheet}
+use Rattle.check_sheets.specs.Check.{yesNo, checked, checkLines, checkSheet}
 
 -- ---- yes or no: a is what the call answered, d its detail
 
@@ -47,7 +47,7 @@ pub numbers-checked : (ws : List ℕ) (linked sortable : Bool) (n m x y a b : �
     → (n ∷ m ∷ x ∷ y ∷ a ∷ b ∷ []) ≡ checked (read limit ws)
 unfolding checked
 numbers-checked ws linked sortable n m x y a b c s p q u v k l =
-    rw (length-tab, length-tab, ← c, ← s, ← p, ← q, ← u, ← v, ← k, ← l)
+    rw (length-tab _ (vertexCount ws), length-tab _ (hyperedgeCount ws), ← c, ← s, ← p, ← q, ← u, ← v, ← k, ← l)
 
 -- ---- the lines
 
@@ -60,15 +60,19 @@ module _ (form ns : List ℕ) (yes : Bool) (p : Page) (c : List ℕ) (q : ℕ) w
   unfolding yesNo
   named-no h e = rw h e
 
-module _ (t : Table) (plain : Bool) (ns : List ℕ) (n : ns ≡ checked t) (p : Page) (d : List ℕ) (o : ℕ) where
-  pub check-plain : plain ≡ true → page d o ≡ write (filled (text "A B C D E F\n") ns []) p → page d o ≡ write (checkSheet plain t) p
+pub lines-put : (ns : List ℕ) (linked sortable : Bool) (p : Page) (b c d : List ℕ) (r q o : ℕ)
+    → page b r ≡ write (filled (text "well formed: A tubes, B transfers, next tube C, next transfer D\n") ns []) p
+    → page c q ≡ write (filled (text "  connected U\n") ns (yesNo linked)) (page b r)
+    → page d o ≡ write (filled (text "  can be sorted U\n") ns (yesNo sortable)) (page c q) → page d o ≡ write (checkLines ns linked sortable) p
+unfolding checkLines
+lines-put ns linked sortable p b c d r q o e f g = then p b d _ _ r o e (then (page b r) c d _ _ q o f g)
+
+module _ (t : Table) (plain : Bool) (ns : List ℕ) (n : ns ≡ checked t) (p : Page) (c : List ℕ) (q : ℕ) where
+  pub check-plain : plain ≡ true → page c q ≡ write (filled (text "A B C D E F\n") ns []) p → page c q ≡ write (checkSheet plain t) p
   unfolding checkSheet
   check-plain h e = rw (h, ← n) e
 
-  pub check-worded : (linked sortable : Bool) (b c : List ℕ) (r q : ℕ) → plain ≡ false → linked ≡ connected t → sortable ≡ acyclic t
-      → page b r ≡ write (filled (text "well formed: A tubes, B transfers, next tube C, next transfer D\n") ns []) p
-      → page c q ≡ write (filled (text "  connected U\n") ns (yesNo linked)) (page b r)
-      → page d o ≡ write (filled (text "  can be sorted U\n") ns (yesNo sortable)) (page c q) → page d o ≡ write (checkSheet plain t) p
+  pub check-worded : (linked sortable : Bool) → plain ≡ false → linked ≡ connected t → sortable ≡ acyclic t → page c q ≡ write (checkLines ns linked sortable) p
+      → page c q ≡ write (checkSheet plain t) p
   unfolding checkSheet
-  check-worded linked sortable b c r q h l s e f g =
-      rw (h, ← n, ← l, ← s) (then p b d _ _ r o e (then (page b r) c d _ _ q o f g))
+  check-worded linked sortable h l s e = rw (h, ← n, ← l, ← s) e

@@ -20,8 +20,13 @@ unfoldable pub checked : Table → List ℕ
 checked t =
     length (t .vertices) ∷ length (t .hyperedges) ∷ t .nextVertex ∷ t .nextHyperedge ∷ bit (connected t) ∷ bit (acyclic t) ∷ []
 
+-- in words
+unfoldable pub checkLines : List ℕ → Bool → Bool → List ℕ
+checkLines ns linked sortable =
+    filled (text "well formed: A tubes, B transfers, next tube C, next transfer D\n") ns []
+    ++ (filled (text "  connected U\n") ns (yesNo linked) ++ filled (text "  can be sorted U\n") ns (yesNo sortable))
+
+-- the sheet; plain: numbers only
 unfoldable pub checkSheet : Bool → Table → List ℕ
-checkSheet false t =
-    filled (text "well formed: A tubes, B transfers, next tube C, next transfer D\n") (checked t) []
-    ++ (filled (text "  connected U\n") (checked t) (yesNo (connected t)) ++ filled (text "  can be sorted U\n") (checked t) (yesNo (acyclic t)))
+checkSheet false t = checkLines (checked t) (connected t) (acyclic t)
 checkSheet true t = filled (text "A B C D E F\n") (checked t) []

@@ -9,7 +9,7 @@ ghost use Rattle.structural.specs.Components.{connected};
 ghost use Rattle.structural.specs.Sort.{acyclic};
 ghost use Rattle.wording.specs.Pages.{page, write};
 ghost use Rattle.wording.specs.Forms.{filled};
-ghost use Rattle.check_sheets.specs.Check.{yesNo, checked, checkSheet};
+ghost use Rattle.check_sheets.specs.Check.{yesNo, checked, checkLines, checkSheet};
 use layout::Answer;
 use wording::put_form;
 
@@ -70,6 +70,21 @@ fn put_yes_no(out: &mut [u8], at: usize, form: &[u8], ns: &[u32], yes: bool) -> 
     put_form(out, at, form, ns, b"no")
 }
 
+// The lines of a check in words.
+fn put_lines(ns: &[u32], linked: bool, sortable: bool, out: &mut [u8], at: usize) -> usize
+    ensures { λ r. ⌜ page (now (out .exit)) r ≡ write (checkLines (now (ns .entry)) linked sortable) (page (now (out .entry)) at) ⌝ }
+{
+    let a = put_form(
+        out,
+        at,
+        b"well formed: A tubes, B transfers, next tube C, next transfer D\n",
+        ns,
+        b"",
+    );
+    let b = put_yes_no(out, a, b"  connected U\n", ns, linked);
+    put_yes_no(out, b, b"  can be sorted U\n", ns, sortable)
+}
+
 // The check: both counts, both next numbers, and whether the table is connected and can be sorted.
 pub fn put_check(t: &[u32], plain: bool, out: &mut [u8], at: usize) -> usize
     requires { ⌜ Formed limit (now t) ⌝ }
@@ -81,13 +96,5 @@ pub fn put_check(t: &[u32], plain: bool, out: &mut [u8], at: usize) -> usize
     if plain {
         return put_form(out, at, b"A B C D E F\n", &ns, b"");
     }
-    let a = put_form(
-        out,
-        at,
-        b"well formed: A tubes, B transfers, next tube C, next transfer D\n",
-        &ns,
-        b"",
-    );
-    let b = put_yes_no(out, a, b"  connected U\n", &ns, linked);
-    put_yes_no(out, b, b"  can be sorted U\n", &ns, sortable)
+    put_lines(&ns, linked, sortable, out, at)
 }

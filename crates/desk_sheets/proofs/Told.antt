@@ -1,5 +1,5 @@
 -- What is releasable and whether an order is accepted, as the desk's calls told. Assumes nothing.
-use mathlib.Core.Path.{_≡_, refl, sym, ap, _∙_}
+use mathlib.Core.Path.{_≡_, ap, _∙_}
 use mathlib.Core.Bool.{Bool, true, false}
 use mathlib.Core.List.{List, [], _∷_}
 use Prim.Native.Nat.{ℕ, _-_, _≤_}
@@ -10,7 +10,7 @@ use Rattle.lists.proofs.Cases.{on}
 use Rattle.layout.specs.declared.Answer.{Answer}
 use Rattle.layout.specs.declared.Answer.the-variants.{Done}
 use Rattle.layout.specs.Content.{Table, liveVertices}
-use Rattle.layout.specs.Layout.{limit, vertexLimit, read}
+use Rattle.layout.specs.Layout.{limit, read}
 use Rattle.layout.specs.Answers.{number, detail, Result, result, listed}
 use Rattle.layout.proofs.Read.{formed-of, live-length}
 use Rattle.desk.specs.Desk.{deskOf, deskFits}
@@ -43,8 +43,13 @@ releasableRoom = replicate 256 0
 releasable-fits : (ws ss : List ℕ) → deskFits (deskOf ws ss) ≡ true → length (releasable ss (read limit ws)) ≤ length releasableRoom
 unfolding releasable releasableRoom
 releasable-fits ws ss f =
-    omega (arith, length-replicate {A = ℕ} 256 0, filter-short (isReleasable (read limit ws) ss) (liveVertices (read limit ws)), live-length limit ws,
-    formed-of limit ws (desk-fits-of f .formed) .shape .vertices-le)
+    omega (
+      arith,
+      length-replicate {A = ℕ} 256 0,
+      filter-short (isReleasable (read limit ws) ss) (liveVertices (read limit ws)),
+      live-length limit ws,
+      formed-of limit ws (desk-fits-of f .formed) .shape .vertices-le,
+    )
 
 module _ (ws ss : List ℕ) (f : deskFits (deskOf ws ss) ≡ true) (a : Answer) (w : List ℕ)
     (e : result a w ≡ onDesk (deskOf ws ss) releasableRoom (releasableResult ss releasableRoom)) (d : ℕ) (m : d ≡ detail a) where

@@ -1,25 +1,27 @@
 -- The lines of a path's entries, and its sheet by the words of the listing. Assumes nothing.
-use mathlib.Core.Path.{_≡_, refl, sym, ap, _∙_}
+use mathlib.Core.Path.{_≡_, sym, ap, _∙_}
 use mathlib.Core.Bool.{Bool, true, false}
-use mathlib.Core.List.{List, [], _∷_, _++_}
+use mathlib.Core.List.{List, [], _∷_}
 use mathlib.Core.Option.{Option, none, some}
-use Prim.Native.Nat.{ℕ, zero, suc, _+_, _-_, _≤_, _<_}
+use Prim.Native.Nat.{ℕ, suc, _+_, _-_, _≤_, _<_}
 use native.Mathlib.Numerals.{add-one}
 use native.Mathlib.Omega.{arith}
-use lib.ListN.{length, getD, drop, length-drop, drop-of-length-le}
+use lib.ListN.{length, getD, drop, length-drop}
+use lib.Dec.{ltb}
 use lib.Seq.{drop-cons}
+use borrow.Author.Tests.{ltb-true}
 use Rattle.lists.specs.Lists.{zeros, tab}
 use Rattle.lists.proofs.Cases.{on-below}
-use Rattle.lists.proofs.Tab.{length-tab, getD-tab}
+use Rattle.lists.proofs.Tab.{getD-tab}
 use Rattle.lists.proofs.Flat.{zeros-part-at}
 use Rattle.lists.proofs.Parts.{part-tail}
 use Rattle.layout.specs.declared.Found.{Found}
 use Rattle.layout.specs.declared.Found.the-variants.{At, Nothing}
 use Rattle.layout.specs.Content.{Table, Hyperedge, noHyperedge, liveHyperedges, position, place}
-use Rattle.layout.specs.Layout.{limit, hyperedgesAt, hyperedgeWord, hyperedgeCount, hyperedgeAt, readHyperedges, read}
+use Rattle.layout.specs.Layout.{limit, hyperedgeWord, hyperedgeCount, hyperedgeAt, readHyperedges, read}
 use Rattle.layout.specs.WellFormed.{unusedHyperedges}
 use Rattle.layout.specs.Inner.{Formed}
-use Rattle.paths.specs.Paths.{entriesAfter, bestPath, pathWords}
+use Rattle.paths.specs.Paths.{bestPath, pathWords}
 use Rattle.reads.specs.Reads.{hyperedgeWeight}
 use Rattle.reads.proofs.Told.{cost-here}
 use Rattle.wording.specs.Texts.{text}
@@ -59,15 +61,17 @@ entry-put form t v e w g c q h k = rw (← h) k
 -- ---- a loop over the words: the lines of what is left, written on the page as it is, give the page w
 
 module _ (w : Page) (form : List ℕ) (t : Table) (words b : List ℕ) (i r : ℕ) (h : write (entryLines form t (drop i words)) (page b r) ≡ w) where
-  pub left-entry : (c : List ℕ) (q : ℕ) → 1 < length words - i
+  -- more than k words are left
+  pub left-entry : (c : List ℕ) (q k : ℕ) → k < length words - i → ltb 0 k ≡ true
       → page c q ≡ write (filled form (getD words i 0 ∷ getD words (i + 1) 0 ∷ hyperedgeWeight (getD words (i + 1) 0) t ∷ []) []) (page b r)
       → write (entryLines form t (drop (i + 2) words)) (page c q) ≡ w
   unfolding entryLines
-  left-entry c q l k =
+  left-entry c q k l o m =
+      let two-left : 1 < length words - i = omega (arith, ltb-true 0 k o) in
       let two : i + 2 ≡ suc (i + 1) = omega arith in
       let first : drop i words ≡ getD words i 0 ∷ drop (i + 1) words = rw (add-one i) (drop-cons words i 0 (omega arith)) in
       let second : drop (i + 1) words ≡ getD words (i + 1) 0 ∷ drop (suc (i + 1)) words = drop-cons words (i + 1) 0 (omega arith) in
-      rw two (left-more w b c _ (entryLines form t (drop (suc (i + 1)) words)) r q (rw (first, second) at h) k)
+      rw two (left-more w b c _ (entryLines form t (drop (suc (i + 1)) words)) r q (rw (first, second) at h) m)
 
   no-entry : (xs : List ℕ) → length xs ≤ 1 → write (entryLines form t xs) (page b r) ≡ w → page b r ≡ w
   unfolding entryLines write

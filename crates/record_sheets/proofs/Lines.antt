@@ -1,11 +1,10 @@
 -- Laws of a line for each of a list: of what is left of it, of those that pass a test, of none. Assumes nothing.
-use mathlib.Core.Path.{_≡_, refl, sym, ap, _∙_}
-use mathlib.Core.Bool.{Bool, true, false, not}
+use mathlib.Core.Path.{_≡_, refl, ap}
+use mathlib.Core.Bool.{Bool, true, false}
 use mathlib.Core.List.{List, [], _∷_, _++_}
 use Prim.Native.Nat.{ℕ, _+_, _≤_, _<_}
 use native.Mathlib.Omega.{arith}
 use lib.ListN.{length, drop, drop-of-length-le}
-use borrow.Author.Tests.{not-true, not-false}
 use Rattle.lists.specs.Lists.{any, filter, tab, flat}
 use Rattle.lists.proofs.Cases.{on, clash}
 use Rattle.lists.proofs.Tab.{length-tab, drop-tab}

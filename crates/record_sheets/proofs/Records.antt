@@ -1,10 +1,10 @@
 -- The lines of tubes and of transfers, from what the code read and wrote. Assumes nothing.
-use mathlib.Core.Path.{_≡_, refl, sym, ap, ap₂, _∙_}
-use mathlib.Core.Bool.{Bool, true, false, not, cond}
-use mathlib.Core.List.{List, [], _∷_, _++_}
+use mathlib.Core.Path.{_≡_, sym, ap, _∙_}
+use mathlib.Core.Bool.{Bool, true, false, not}
+use mathlib.Core.List.{List, [], _∷_}
 use Prim.Native.Nat.{ℕ, _+_, _≤_, _<_}
 use native.Mathlib.Omega.{arith}
-use lib.ListN.{length, getD, drop, drop-of-length-le}
+use lib.ListN.{getD, drop, drop-of-length-le}
 use borrow.Author.Tests.{not-true, not-false, eq-eqb, ne-eqb}
 use Rattle.lists.specs.Lists.{any, memb, flat}
 use Rattle.lists.proofs.Tab.{length-tab, drop-tab}
@@ -18,7 +18,7 @@ use Rattle.wording.specs.Texts.{text}
 use Rattle.wording.specs.Pages.{Page, page, write}
 use Rattle.wording.specs.Forms.{filled, numberLine}
 use Rattle.wording.proofs.Writing.{then, nothing-written}
-use Rattle.record_sheets.specs.Records.{stateName, tubeLine, transferLine, tubeLines, transferLines, transfersOf}
+use Rattle.record_sheets.specs.Records.{stateName, tubeLine, transferLine, tubeLines, transfersOf}
 use Rattle.record_sheets.specs.Inner.{lineWhere}
 use Rattle.record_sheets.proofs.Lines.{flat-where, lines-none, lines-some, none-pass, some-pass}
 

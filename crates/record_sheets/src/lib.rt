@@ -119,7 +119,8 @@ fn put_listing(t: &[u32], v: u32, j: usize, form: &[u8], out: &mut [u8], at: usi
     requires { ⌜ j < hyperedgeCount (now t) ⌝ }
     ensures { λ r. ⌜ page (now (out .exit)) r ≡ write (lineWhere (lists v) (transferLine (now (form .entry))) (hyperedgeAt limit (now (t .entry)) j)) (page (now (out .entry)) at) ⌝ }
 {
-    if lookups::holds(layout::members_formed(t, j), v) {
+    let ms = layout::members_formed(t, j);
+    if lookups::holds(ms, v) {
         return put_transfer(t, j, form, out, at);
     }
     at

@@ -31,35 +31,11 @@ same-length c = search needs
 returns : tie.Need-returns
 returns c = search check-plain
 
-slice-aggregate-put-form-4 : tie.Need-slice-aggregate-put-form-4
-slice-aggregate-put-form-4 c = search needs
+slice-aggregate-put-lines : tie.Need-slice-aggregate-put-lines
+slice-aggregate-put-lines c = search needs
 
-slice-aggregate-put-form-5 : tie.Need-slice-aggregate-put-form-5
-slice-aggregate-put-form-5 c = search needs
-
-slice-aggregate-put-form-6 : tie.Need-slice-aggregate-put-form-6
-slice-aggregate-put-form-6 c = search needs
-
-put-form-requires-2 : tie.Need-put-form-requires-2
-put-form-requires-2 c κs = search needs
-
-slice-aggregate-put-yes-no : tie.Need-slice-aggregate-put-yes-no
-slice-aggregate-put-yes-no c = search needs
-
-slice-aggregate-put-yes-no-2 : tie.Need-slice-aggregate-put-yes-no-2
-slice-aggregate-put-yes-no-2 c = search needs
-
-put-yes-no-requires : tie.Need-put-yes-no-requires
-put-yes-no-requires c κs = search needs
-
-slice-aggregate-put-yes-no-3 : tie.Need-slice-aggregate-put-yes-no-3
-slice-aggregate-put-yes-no-3 c = search needs
-
-slice-aggregate-put-yes-no-4 : tie.Need-slice-aggregate-put-yes-no-4
-slice-aggregate-put-yes-no-4 c = search needs
-
-put-yes-no-requires-2 : tie.Need-put-yes-no-requires-2
-put-yes-no-requires-2 c κs = search needs
+put-lines-requires : tie.Need-put-lines-requires
+put-lines-requires c κs = search needs
 
 same-length-2 : tie.Need-same-length-2
 same-length-2 c = search needs
@@ -80,15 +56,7 @@ put-check-spec =
     put-form-requires
     same-length
     returns
-    slice-aggregate-put-form-4
-    slice-aggregate-put-form-5
-    slice-aggregate-put-form-6
-    put-form-requires-2
-    slice-aggregate-put-yes-no
-    slice-aggregate-put-yes-no-2
-    put-yes-no-requires
-    slice-aggregate-put-yes-no-3
-    slice-aggregate-put-yes-no-4
-    put-yes-no-requires-2
+    slice-aggregate-put-lines
+    put-lines-requires
     same-length-2
     returns-2)

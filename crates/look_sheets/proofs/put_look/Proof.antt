@@ -1,30 +1,24 @@
+-- `look_sheets::put_look` meets its contract. Assumes nothing.
+use Rattle.desk_fits.proofs.Fits.{formed-by-desk, long-by-desk}
+use Rattle.look_sheets.proofs.Seen.{fits-by-desk, look-misfit, look-fit}
 use borrow.Author.Needs.{needs}
 use Rattle.look_sheets.proofs.put_look.Statement.{statement}
 use Rattle.look_sheets.proofs.put_look.Tie as tie
-use Rattle.look_sheets.proofs.put_look.Reads as reads
-use Rattle.look_sheets.proofs.put_look.Lts as lts
-use Rattle.desk_fits.proofs.desk_fits.Reads as desk-fits-reads
-use Rattle.look_sheets.proofs.look_formed.Reads as look-formed-reads
 
--- src/lib.rt:294:9
 desk-fits-requires : tie.Need-desk-fits-requires
 desk-fits-requires c κs = search needs
 
--- src/lib.rt:295:9
 returns : tie.Need-returns
-returns c = search needs
+returns c = search look-misfit
 
--- src/lib.rt:297:5
 look-formed-requires : tie.Need-look-formed-requires
-look-formed-requires c κs = search needs
+look-formed-requires c κs = (search formed-by-desk, (search long-by-desk, search fits-by-desk))
 
--- src/lib.rt:283:1
 same-length : tie.Need-same-length
 same-length c = search needs
 
--- src/lib.rt:283:1
 returns-2 : tie.Need-returns-2
-returns-2 c = search needs
+returns-2 c = search look-fit
 
 pub put-look-spec : {M : Type 1} → statement M
 put-look-spec =

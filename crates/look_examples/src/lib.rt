@@ -1,0 +1,1 @@
+// The sheets of looks, computed: theorems alone.
