@@ -128,7 +128,6 @@ module _ {ws : List ℕ} (f : Formed limit ws) where
       within = omega arith;
       count = omega arith;
       some = omega arith;
-      limited = omega arith;
     }
 
     pub noting-length : {p low k : ℕ} {ss : List ℕ} → Noting (read limit ws) text p low k ss → (first : List ℕ) → first ≡ blank vertexLimit → length ss ≡ length first
@@ -166,7 +165,6 @@ module _ {ws : List ℕ} (f : Formed limit ws) where
               within = a .within;
               count = omega (arith, n .count, a .on);
               some = omega arith;
-              limited = omega (arith, j .word ne);
             }
 
       pub lines-end : length text ≤ p → LinesRead (read limit ws) text ss 0

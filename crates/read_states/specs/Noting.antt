@@ -44,7 +44,6 @@ pub record Noting (t : Table) (text : List ℕ) (p low k : ℕ) (ss : List ℕ) 
   pub within : p ≤ length text
   pub count : k ≤ p + 1
   pub some : 0 < k
-  pub limited : low ≤ 4294967296
 
 -- r is the faulty line, or 0, and then the states are those that the text says
 pub record LinesRead (t : Table) (text ss : List ℕ) (r : ℕ) : Type 0 where
