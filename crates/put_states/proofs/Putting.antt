@@ -1,7 +1,7 @@
 -- What the code writes of the states, and what is left of them. Assumes nothing.
-use mathlib.Core.Path.{_≡_, refl, sym, ap, _∙_}
-use mathlib.Core.List.{List, [], _∷_, _++_}
-use Prim.Native.Nat.{ℕ, suc, _+_, _≤_, _<_}
+use mathlib.Core.Path.{_≡_, sym, ap, _∙_}
+use mathlib.Core.List.{List, _++_}
+use Prim.Native.Nat.{ℕ, _+_, _≤_, _<_}
 use native.Mathlib.Numerals.{add-one}
 use native.Mathlib.Omega.{arith}
 use lib.ListN.{length, getD, drop, drop-of-length-le}
@@ -14,7 +14,7 @@ use Rattle.layout.specs.Inner.{Formed}
 use Rattle.layout.proofs.Read.{live-at, live-length}
 use Rattle.wording.specs.Texts.{text, decimal}
 use Rattle.wording.specs.Pages.{Page, page, writeByte, write}
-use Rattle.wording.proofs.Writing.{one-byte, write-append, then, nothing-written, left-more}
+use Rattle.wording.proofs.Writing.{one-byte, then, nothing-written, left-more}
 use Rattle.desk.specs.States.{waiting, released}
 use Rattle.states_text.specs.StatesText.{stateWord, stateLine, lineFor, statesText}
 

@@ -1,5 +1,5 @@
 -- Which answer the reading gives. Assumes nothing.
-use mathlib.Core.Path.{_≡_, sym, _∙_}
+use mathlib.Core.Path.{_≡_}
 use mathlib.Core.List.{List}
 use Prim.Native.Nat.{ℕ}
 use lib.ListN.{length}
@@ -8,7 +8,7 @@ use Rattle.layout.specs.declared.Answer.the-variants.{Done, BadText, NotWellFor
 use Rattle.layout.specs.Content.{Table}
 use Rattle.layout.specs.Layout.{vertexLimit}
 use Rattle.layout.specs.Answers.{result}
-use Rattle.states_text.specs.Reading.{faultyState, readStatesResult}
+use Rattle.states_text.specs.Reading.{readStatesResult}
 use Rattle.read_states.specs.Noting.{LinesRead}
 
 module _ (t : Table) (text s : List ℕ) where

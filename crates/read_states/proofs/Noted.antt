@@ -1,12 +1,11 @@
 -- The states as they are noted, line by line. Assumes nothing.
-use mathlib.Core.Path.{_≡_, refl, sym, ap, _∙_, subst}
-use mathlib.Core.Bool.{Bool, true, false}
+use mathlib.Core.Path.{_≡_, refl, sym, ap, _∙_}
+use mathlib.Core.Bool.{true}
 use mathlib.Core.List.{List, [], _∷_, _++_, append-nil}
-use Prim.Native.Nat.{ℕ, suc, _+_, _-_, _≤_, _<_}
+use Prim.Native.Nat.{ℕ, _+_, _-_, _≤_, _<_}
 use native.Mathlib.Nat.{lt-irrefl}
 use native.Mathlib.Numerals.{add-one}
 use native.Mathlib.Omega.{arith}
-use lib.Dec.{ltb}
 use lib.ListN.{length, take, drop, set, drop-of-length-le}
 use lib.Seq.{append-snoc}
 use borrow.Author.Tests.{lt-ltb, ltb-true}
@@ -18,16 +17,16 @@ use Rattle.lists.proofs.All.{all-snoc}
 use Rattle.lists.proofs.Kept.{all-then}
 use Rattle.layout.specs.declared.Found.{Found}
 use Rattle.layout.specs.declared.Found.the-variants.{At, Nothing}
-use Rattle.layout.specs.Content.{liveVertices, position, place}
-use Rattle.layout.specs.Layout.{limit, vertexLimit, vertexCount, read}
+use Rattle.layout.specs.Content.{liveVertices, position}
+use Rattle.layout.specs.Layout.{limit, vertexLimit, read}
 use Rattle.layout.specs.Inner.{Formed}
-use Rattle.layout.proofs.Position.{position-found, found-live, missing-dead}
+use Rattle.layout.proofs.Position.{found-live, missing-dead}
 use Rattle.layout.proofs.Read.{live-length, live-ascends, vertex-found}
 use Rattle.reader.proofs.Made.{blank-is, length-blank}
-use Rattle.desk.specs.States.{waiting, released, statesFit, stateIn, stateOf, withState, statesBy, allWaiting}
+use Rattle.desk.specs.States.{waiting, statesFit, stateIn, stateOf, withState, statesBy, allWaiting}
 use Rattle.desk.proofs.States.{states-fit-of, state-by, states-by-ext, states-by-fit, states-same, waiting-fits, waiting-all}
 use Rattle.desk.proofs.Signing.{state-set, state-other, set-fits}
-use Rattle.states_text.specs.Reading.{lines, lineNumber, lineState, lineGood, faultyFrom, stateSaid, faultyState, statesRead}
+use Rattle.states_text.specs.Reading.{lines, lineNumber, lineState, lineGood, faultyFrom, stateSaid}
 use Rattle.states_text.proofs.Lines.{says-state}
 use Rattle.states_text.proofs.Said.{good-number, faulty-on, faulty-here, said-here, said-other, said-none, said-state}
 use Rattle.state_lines.specs.Judged.{Judged}
@@ -129,7 +128,6 @@ module _ {ws : List ℕ} (f : Formed limit ws) where
       within = omega arith;
       count = omega arith;
       some = omega arith;
-      limited = omega arith;
     }
 
     pub noting-length : {p low k : ℕ} {ss : List ℕ} → Noting (read limit ws) text p low k ss → (first : List ℕ) → first ≡ blank vertexLimit → length ss ≡ length first
@@ -167,7 +165,6 @@ module _ {ws : List ℕ} (f : Formed limit ws) where
               within = a .within;
               count = omega (arith, n .count, a .on);
               some = omega arith;
-              limited = omega (arith, j .word ne);
             }
 
       pub lines-end : length text ≤ p → LinesRead (read limit ws) text ss 0

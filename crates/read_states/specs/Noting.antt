@@ -1,6 +1,6 @@
 -- What the code of the reader holds. Assumes nothing.
 use mathlib.Core.Path.{_≡_}
-use mathlib.Core.Bool.{Bool, true, cond}
+use mathlib.Core.Bool.{Bool, true}
 use mathlib.Core.List.{List, _∷_, _++_}
 use Prim.Native.Nat.{ℕ, _+_, _-_, _≤_, _<_}
 use lib.Dec.{ltb}
@@ -10,8 +10,8 @@ use Rattle.layout.specs.declared.Found.{Found}
 use Rattle.layout.specs.declared.Found.the-variants.{At, Nothing}
 use Rattle.layout.specs.Content.{Table, liveVertices}
 use Rattle.layout.specs.Layout.{vertexLimit}
-use Rattle.desk.specs.States.{waiting, statesBy}
-use Rattle.states_text.specs.Reading.{lines, lineNumber, lineState, lineGood, faultyFrom, stateSaid, faultyState, statesRead}
+use Rattle.desk.specs.States.{statesBy}
+use Rattle.states_text.specs.Reading.{lines, lineNumber, faultyFrom, stateSaid, faultyState, statesRead}
 
 -- the line that begins at place p ends before place r
 pub record LineAt (text : List ℕ) (p r : ℕ) : Type 0 where
@@ -44,7 +44,6 @@ pub record Noting (t : Table) (text : List ℕ) (p low k : ℕ) (ss : List ℕ) 
   pub within : p ≤ length text
   pub count : k ≤ p + 1
   pub some : 0 < k
-  pub limited : low ≤ 4294967296
 
 -- r is the faulty line, or 0, and then the states are those that the text says
 pub record LinesRead (t : Table) (text ss : List ℕ) (r : ℕ) : Type 0 where

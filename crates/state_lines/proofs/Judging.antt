@@ -4,13 +4,9 @@ use mathlib.Core.Bool.{Bool, true, false, cond}
 use mathlib.Core.List.{List, _++_}
 use Prim.Native.Nat.{ℕ, suc, _+_, _*_, _-_, _≤_, _<_}
 use native.Mathlib.Nat.{lt-irrefl}
-use native.Mathlib.Numerals.{add-one}
 use native.Mathlib.Omega.{arith}
-use lib.Dec.{eqb, leb, ltb}
 use lib.ListN.{length, getD, take, drop, replicate, length-replicate, length-drop, length-append}
 use lib.Seq.{take-suc, getD-drop, getD-take, length-take-le, take-append-seam}
-use mir.Syntax.{w64}
-use mir.Val.{Fits}
 use borrow.Author.Tests.{lt-ltb, le-ltb, ltb-true}
 use Rattle.lists.specs.Tests.{_and_}
 use Rattle.lists.specs.Lists.{sameList}
@@ -18,7 +14,7 @@ use Rattle.lists.proofs.Cases.{on, on-same, clash}
 use Rattle.frames.specs.Faulty.{isWord}
 use Rattle.edits.proofs.Identical.{same-not-long, same-on, same-no, same-end}
 use Rattle.wording.specs.Pages.{Page, page, write}
-use Rattle.wording.proofs.Writing.{whole-written, write-within}
+use Rattle.wording.proofs.Writing.{write-within}
 use Rattle.desk.specs.States.{waiting, reviewed, released}
 use Rattle.states_text.specs.StatesText.{stateLine}
 use Rattle.states_text.specs.Reading.{valueFrom, lineNumber, isLineOf, lineState, lineGood}
@@ -36,7 +32,7 @@ pub number-first : (l : List ℕ) → 0 ≡ valueFrom 0 (take (9 - 9) (drop 9 l)
 unfolding valueFrom
 number-first l = refl
 
-module _ (l : List ℕ) (i v : ℕ) (low : 9 ≤ i) (high : i ≤ 9 + (length l - 10)) (e : v ≡ valueFrom 0 (take (i - 9) (drop 9 l))) where
+module _ (l : List ℕ) (i v : ℕ) (low : 9 ≤ i) (high : i ≤ 9 + (length l - 10)) (e : v ≡ valueFrom 0 (take (i - 9) (drop 9 l))) (small : v ≤ 42949673205) where
   -- d is the value of the next one
   pub number-more : (d : ℕ) → i + 1 < length l → d ≡ getD l i 0 - 48 → v * 10 + d ≡ valueFrom 0 (take (i + 1 - 9) (drop 9 l))
   number-more d h ed =
@@ -53,6 +49,7 @@ module _ (l : List ℕ) (i v : ℕ) (low : 9 ≤ i) (high : i ≤ 9 + (length l 
       record {
         word = le-ltb v 4294967296 (omega arith) ∙ sym (le-ltb (valueFrom 0 (take (length l - 10) (drop 9 l))) 4294967296 (omega (arith, more)));
         same = λ b. absurd (lt-irrefl v (omega arith));
+        small = small;
       }
 
   pub number-end : length l ≤ i + 1 → Numbered l v
@@ -60,7 +57,7 @@ module _ (l : List ℕ) (i v : ℕ) (low : 9 ≤ i) (high : i ≤ 9 + (length l 
   number-end h =
       let s : i - 9 ≡ length l - 10 = omega arith in
       let is : v ≡ valueFrom 0 (take (length l - 10) (drop 9 l)) = e ∙ ap (λ (k : ℕ). valueFrom 0 (take k (drop 9 l))) s in
-      record { word = ap isWord is; same = λ _. is }
+      record { word = ap isWord is; same = λ _. is; small = small }
 
 -- ---- the same bytes as the first n of b
 
@@ -68,18 +65,24 @@ module _ (a b : List ℕ) (n : ℕ) (h : n ≤ length b) where
   front-length : length (take n b) ≡ n
   front-length = length-take-le n b h
 
-  pub front-apart : (length a ≡ n → ⊥) → false ≡ sameList a (take n b)
-  front-apart ne = same-not-long a (take n b) (λ q. ne (q ∙ front-length))
+  pub front-longer : n < length a → false ≡ sameList a (take n b)
+  front-longer l = same-not-long a (take n b) (λ q. lt-irrefl n (omega (arith, front-length)))
 
-  module _ (e : length a ≡ n) (i : ℕ) (inv : sameList (drop i a) (drop i (take n b)) ≡ sameList a (take n b)) where
-    pub front-on : i < n → getD a i 0 ≡ getD b i 0 → sameList (drop (i + 1) a) (drop (i + 1) (take n b)) ≡ sameList a (take n b)
-    front-on l q = same-on a (take n b) i _ inv (e ∙ sym front-length) (omega arith) (q ∙ sym (getD-take n b i 0 l))
+  pub front-shorter : length a < n → false ≡ sameList a (take n b)
+  front-shorter l = same-not-long a (take n b) (λ q. lt-irrefl n (omega (arith, front-length)))
 
-    pub front-no : i < n → (getD a i 0 ≡ getD b i 0 → ⊥) → false ≡ sameList a (take n b)
-    front-no l ne = same-no a (take n b) i _ inv (e ∙ sym front-length) (omega arith) (λ q. ne (q ∙ getD-take n b i 0 l))
+  module _ (u : length a ≤ n) (v : n ≤ length a) (i : ℕ) (inv : sameList (drop i a) (drop i (take n b)) ≡ sameList a (take n b)) where
+    same-long : length a ≡ length (take n b)
+    same-long = omega (arith, front-length)
 
-    pub front-end : n ≤ i → true ≡ sameList a (take n b)
-    front-end l = same-end a (take n b) i _ inv (e ∙ sym front-length) (omega arith)
+    pub front-on : i < length a → getD a i 0 ≡ getD b i 0 → sameList (drop (i + 1) a) (drop (i + 1) (take n b)) ≡ sameList a (take n b)
+    front-on l q = same-on a (take n b) i _ inv same-long l (q ∙ sym (getD-take n b i 0 (omega arith)))
+
+    pub front-no : i < length a → (getD a i 0 ≡ getD b i 0 → ⊥) → false ≡ sameList a (take n b)
+    front-no l ne = same-no a (take n b) i _ inv same-long l (λ q. ne (q ∙ getD-take n b i 0 (omega arith)))
+
+    pub front-end : length a ≤ i → true ≡ sameList a (take n b)
+    front-end l = same-end a (take n b) i _ inv same-long l
 
 -- ---- the line that is written for v in state x: w is the page, n the place behind it
 
@@ -148,6 +151,7 @@ module _ (l : List ℕ) (low v : ℕ) (n : Numbered l v) where
     is = ap (λ (b : Bool). cond b (lineState l) waiting) (sym (bad h));
     number = λ ne. absurd (ne refl);
     word = λ ne. absurd (ne refl);
+    small = n .small;
   }
     where
       bad : v < low → lineGood low l ≡ false
@@ -160,6 +164,7 @@ module _ (l : List ℕ) (low v : ℕ) (n : Numbered l v) where
         (λ ne. e ∙ ap (λ (b : Bool). cond b (lineState l) waiting) (sym (good-of low l ne (omega (arith, number-found ne .0)))));
     number = λ ne. number-found (λ w. ne (e ∙ w)) .0;
     word = λ ne. number-found (λ w. ne (e ∙ w)) .1;
+    small = n .small;
   }
 
 -- what the verdict says of the line
@@ -178,6 +183,3 @@ module _ {l : List ℕ} {low x v : ℕ} (j : Judged l low x v) where
 
   pub judged-word : (x ≡ waiting → ⊥) → v < 4294967296
   judged-word ne = j .word ne
-
-  pub judged-next : (x ≡ waiting → ⊥) → Fits w64 (v + 1)
-  judged-next ne = omega (arith, j .word ne)

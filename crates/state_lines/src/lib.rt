@@ -51,11 +51,14 @@ fn same_front(a: &[u8], b: &[u8], n: usize) -> bool
     requires { ⌜ n ≤ length (now b) ⌝ }
     ensures { λ r. ⌜ r ≡ sameList (now (a .entry)) (take n (now (b .entry))) ⌝ }
 {
-    if a.len() != n {
+    if n < a.len() {
+        return false;
+    }
+    if a.len() < n {
         return false;
     }
     let mut i = 0;
-    while i < n {
+    while i < a.len() {
         if a[i] != b[i] {
             return false;
         }

@@ -1,6 +1,6 @@
 -- Laws of lines, of the value of digits, and of what a written line says. Assumes nothing.
 use mathlib.Core.Path.{_≡_, refl, sym, ap, ap₂, _∙_}
-use mathlib.Core.Bool.{Bool, true, false}
+use mathlib.Core.Bool.{true, false}
 use mathlib.Core.List.{List, [], _∷_, _++_, append-assoc}
 use Prim.Native.Nat.{ℕ, zero, suc, _+_, _*_, _-_, _/_, _%_, _≤_, _<_}
 use native.Mathlib.Nat.{not-suc-le-zero, lt-irrefl, le-of-suc-le-suc}
@@ -16,7 +16,7 @@ use Rattle.lists.proofs.Memb.{memb-append}
 use Rattle.frames.specs.Faulty.{isWord}
 use Rattle.frames.proofs.Parse.{same-refl}
 use Rattle.wording.specs.Texts.{text, digit, spelled, decimal}
-use Rattle.desk.specs.States.{waiting, reviewed, released}
+use Rattle.desk.specs.States.{reviewed, released}
 use Rattle.states_text.specs.StatesText.{stateWord, stateLine}
 use Rattle.states_text.specs.Reading.{feed, joined, lines, valueFrom, numberPlace, lineNumber, isLineOf, lineState}
 

@@ -1,13 +1,13 @@
 -- Laws of what lines say, and of what the lines of written states say. Assumes nothing.
 use mathlib.Core.Path.{_≡_, refl, sym, ap, _∙_}
-use mathlib.Core.Bool.{Bool, true, false}
+use mathlib.Core.Bool.{true, false}
 use mathlib.Core.List.{List, [], _∷_, _++_}
 use Prim.Native.Nat.{ℕ, zero, suc, _≤_, _<_}
 use native.Mathlib.Nat.{not-suc-le-zero, lt-irrefl, le-of-suc-le-suc}
 use native.Mathlib.Omega.{arith}
-use lib.Dec.{eqb, leb, ltb}
+use lib.Dec.{leb, ltb}
 use lib.ListN.{length, getD}
-use borrow.Author.Tests.{eq-eqb, ne-eqb, eqb-false, leb-true, le-leb, ltb-true, not-true}
+use borrow.Author.Tests.{eq-eqb, ne-eqb, leb-true, le-leb, ltb-true}
 use Rattle.lists.specs.Tests.{_and_}
 use Rattle.lists.specs.Lists.{all, any, ascending, isBelow, sameList}
 use Rattle.lists.proofs.Cases.{on, on-same, or-right, and-left, and-right, and-both}

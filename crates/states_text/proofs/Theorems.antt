@@ -1,27 +1,27 @@
 -- The states as a text: what is written is read back; what is read fits the table; a text releases only what it names. Assumes nothing.
-use mathlib.Core.Path.{_≡_, refl, sym, ap, _∙_, subst}
-use mathlib.Core.Bool.{Bool, true, false}
+use mathlib.Core.Path.{_≡_, sym, ap, _∙_, subst}
+use mathlib.Core.Bool.{true}
 use mathlib.Core.List.{List}
-use Prim.Native.Nat.{ℕ, suc, _<_}
+use Prim.Native.Nat.{ℕ, _<_}
 use native.Mathlib.Nat.{lt-irrefl}
 use native.Mathlib.Omega.{arith}
-use lib.Dec.{eqb, leb, ltb}
+use lib.Dec.{eqb, leb}
 use lib.ListN.{length, getD}
 use borrow.Author.Tests.{eq-eqb, eqb-true, le-leb}
 use Rattle.lists.specs.Tests.{_and_}
-use Rattle.lists.specs.Lists.{all, any, memb, sameList}
+use Rattle.lists.specs.Lists.{all, memb}
 use Rattle.lists.proofs.Cases.{on, and-both}
 use Rattle.lists.proofs.All.{all-at, all-of}
 use Rattle.lists.proofs.Ascend.{ascending-of}
 use Rattle.lists.proofs.Memb.{memb-at}
 use Rattle.layout.specs.declared.Answer.the-variants.{Done}
-use Rattle.layout.specs.Content.{Table, liveVertices}
+use Rattle.layout.specs.Content.{liveVertices}
 use Rattle.layout.specs.Layout.{limit, vertexLimit, vertexCount, vertexWord, read}
 use Rattle.layout.specs.WellFormed.{wellFormed}
 use Rattle.layout.specs.Answers.{Result, result, onFormed}
 use Rattle.layout.proofs.Read.{formed-of, live-at, live-length}
 use Rattle.frames.specs.Faulty.{isWord}
-use Rattle.desk.specs.States.{waiting, released, stateIn, inState, statesBy}
+use Rattle.desk.specs.States.{released, stateIn, inState}
 use Rattle.desk.specs.Desk.{Desk, deskOf, content, deskFits}
 use Rattle.desk.proofs.States.{states-fit-of, state-at, state-dead, state-by, states-by-ext, states-by-fit, states-same}
 use Rattle.desk.proofs.Edits.{desk-fits-of, live-rises, live-few}

@@ -2,7 +2,7 @@
 use Prim.Native.Nat.{_-_}
 use lib.ListN.{length}
 use Rattle.layout.specs.Layout.{limit, read}
-use Rattle.state_lines.proofs.Judging.{judged-word, judged-next}
+use Rattle.state_lines.proofs.Judging.{judged-word}
 use Rattle.read_states.specs.Noting.{Noting}
 use Rattle.read_states.proofs.Noted.{noting-first, noting-length, lines-bad, noting-more, lines-end}
 use borrow.Author.Needs.{needs}
@@ -43,7 +43,7 @@ note-requires : tie.Need-note-requires Inv-loop μ-loop
 note-requires c κs = (search needs, (search judged-word, search needs))
 
 add-low : tie.Need-add-low Inv-loop μ-loop
-add-low c = search judged-next
+add-low c = search needs
 
 add-k : tie.Need-add-k Inv-loop μ-loop
 add-k c = search needs

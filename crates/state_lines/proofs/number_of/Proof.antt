@@ -9,13 +9,13 @@ use Rattle.state_lines.proofs.number_of.Statement.{statement}
 use Rattle.state_lines.proofs.number_of.Tie as tie
 
 abbrev Inv-loop : tie.InvT-loop
-Inv-loop line v₀ i₀ v i = (9 ≤ i) × (i ≤ 9 + (length line - 10)) × (v ≡ valueFrom 0 (take (i - 9) (drop 9 line)))
+Inv-loop line v₀ i₀ v i = (9 ≤ i) × (i ≤ 9 + (length line - 10)) × (v ≡ valueFrom 0 (take (i - 9) (drop 9 line))) × (v ≤ 42949673205)
 
 abbrev μ-loop : tie.MeasureT-loop
 μ-loop line v₀ i₀ v i = length line - i
 
 loop-holds : tie.Need-loop-holds Inv-loop μ-loop
-loop-holds c = (search needs, search needs, search number-first)
+loop-holds c = (search needs, search needs, search number-first, search needs)
 
 add-loop : tie.Need-add-loop Inv-loop μ-loop
 add-loop c = search needs
@@ -42,7 +42,7 @@ loop-less : tie.Need-loop-less Inv-loop μ-loop
 loop-less c = search needs
 
 loop-again : tie.Need-loop-again Inv-loop μ-loop
-loop-again c = (search needs, search needs, search number-more)
+loop-again c = (search needs, search needs, search number-more, search needs)
 
 returns-2 : tie.Need-returns-2 Inv-loop μ-loop
 returns-2 c = search number-end
