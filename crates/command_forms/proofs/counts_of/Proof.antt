@@ -16,7 +16,7 @@ array-copy-out-result c = search needs
 
 returns : tie.Need-returns
 unfolding tab forms formAt
-returns c = getD-tab (λ (k : ℕ). formAt k .least ∷ formAt k .most ∷ []) commandCount (c .before .args .k) _ (search needs)
+returns c = getD-tab (λ (k : ℕ). formAt k .least ∷ formAt k .most ∷ []) commandCount (c .before .args .k) [] (search needs)
 
 pub counts-of-spec : {M : Type 1} → statement M
 counts-of-spec = tie.close (tie.spec mul-result array-copy-out-result returns)

@@ -27,7 +27,7 @@ returns-5 c = form-at _ _ _ (c .match .keys5)
 
 returns-6 : tie.Need-returns-6
 unfolding forms formAt
-returns-6 c = form-at {k = c .before .args .k} {j = 10} _ _ _ (omega arith)
+returns-6 c = form-at {k = c .before .args .k} {j = 10} (c .before .args .a) (c .before .args .b) (c .before .args .c) (omega arith)
 
 pub edits-spec : {M : Type 1} → statement M
 edits-spec = tie.close (tie.spec returns returns-2 returns-3 returns-4 returns-5 returns-6)
