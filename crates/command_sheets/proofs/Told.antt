@@ -15,9 +15,9 @@ use Rattle.desk.specs.Desk.{Desk}
 use Rattle.wording.specs.Pages.{Page, page}
 use Rattle.saying.specs.Saying.{paged}
 use Rattle.commands.specs.declared.Command.{Command}
-use Rattle.commands.specs.declared.Command.the-variants.{Init}
+use Rattle.commands.specs.declared.Command.the-variants.{Init, Make}
 use Rattle.commands.specs.declared.Change.{Change}
-use Rattle.changes.specs.Changes.{Told, told}
+use Rattle.changes.specs.Changes.{Told, told, changeTold}
 use Rattle.command_sheets.specs.declared.Manner.{Manner}
 use Rattle.command_sheets.specs.Commanded.{toldOf, listOf, listIn, commandTold, isMisused}
 
@@ -34,6 +34,12 @@ misused-as how i r c k e p = p ∙ ap (λ (x : Command). isMisused how i x) (sym
 
 pub told-as : (how : Manner) (name ns : List ℕ) (d : Desk) (p : Page) (x : Told) (c k : Command) → c ≡ k → x ≡ commandTold how name k ns d p → x ≡ commandTold how name c ns d p
 told-as how name ns d p x c k e q = q ∙ ap (λ (y : Command). commandTold how name y ns d p) (sym e)
+
+-- a change, with its list
+pub make-told : (how : Manner) (name ns list : List ℕ) (d : Desk) (p : Page) (x : Told) (c : Command) (m : Change) → c ≡ Make m → list ≡ listOf m ns
+    → x ≡ changeTold (how .plain) m list d p → x ≡ commandTold how name c ns d p
+unfolding commandTold
+make-told how name ns list d p x c m e l q = q ∙ rw (e, l)
 
 -- a list without a number has none behind the first
 pub none-behind : (ns : List ℕ) → length ns < 1 → ns ≡ drop 1 ns

@@ -1,5 +1,5 @@
 -- `command_sheets::tell` meets its contract. Assumes nothing.
-use Rattle.command_sheets.proofs.Told.{told-as, said-told, page-told}
+use Rattle.command_sheets.proofs.Told.{told-as, make-told, said-told, page-told}
 use Rattle.command_sheets.specs.Commanded.{commandTold}
 use borrow.Author.Needs.{needs}
 use Rattle.command_sheets.proofs.tell.Statement.{statement}
@@ -102,8 +102,7 @@ same-length-9 : tie.Need-same-length-9
 same-length-9 c = search needs
 
 returns-4 : tie.Need-returns-4
-unfolding commandTold
-returns-4 c = search told-as
+returns-4 c = search make-told
 
 same-length-10 : tie.Need-same-length-10
 same-length-10 c = search needs
