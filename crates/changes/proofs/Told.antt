@@ -14,11 +14,11 @@ use Rattle.layout.proofs.Read.{formed-of}
 use Rattle.calls.specs.Calls.{addHyperedge}
 use Rattle.commands.specs.declared.Change.{Change}
 use Rattle.commands.specs.declared.Change.the-variants.{Transfer}
-use Rattle.desk.specs.Desk.{Desk, Outcome, deskOf, outcome, deskFits, deskEdit}
+use Rattle.desk.specs.Desk.{Desk, deskOf, outcome, deskFits, deskEdit}
 use Rattle.desk.proofs.Edits.{desk-fits-of}
-use Rattle.wording.specs.Pages.{Page, page, write}
+use Rattle.wording.specs.Pages.{page, write}
 use Rattle.entry_sheets.specs.Entries.{numberAlone, transferSaid}
-use Rattle.changes.specs.Changes.{changed, sheet, Told, told, written, unwritten, changeTold}
+use Rattle.changes.specs.Changes.{changed, sheet, told, written, unwritten, changeTold}
 
 -- the call left d′ and answered a; r is what `is_done` found
 module _ (plain : Bool) (c : Change) (list : List ℕ) (d : Desk) (a : Answer) (d′ : Desk) (e : outcome a d′ ≡ changed c list d)
