@@ -1,5 +1,5 @@
 -- A review and releases at the desk, and their sheets by the states before. Assumes nothing.
-use mathlib.Core.Path.{_≡_, refl, sym, ap, _∙_}
+use mathlib.Core.Path.{_≡_, sym, ap, _∙_}
 use mathlib.Core.Bool.{Bool, true, false, not, cond}
 use mathlib.Core.List.{List, []}
 use Prim.Native.Nat.{ℕ}
@@ -10,7 +10,7 @@ use Rattle.lists.proofs.Cases.{clash}
 use Rattle.layout.specs.declared.VertexIndex.{VertexIndex}
 use Rattle.layout.specs.declared.Answer.{Answer}
 use Rattle.layout.specs.declared.Answer.the-variants.{Done}
-use Rattle.layout.specs.Content.{Table, liveVertices, isLive}
+use Rattle.layout.specs.Content.{liveVertices, isLive}
 use Rattle.layout.specs.Layout.{limit, vertexLimit, read}
 use Rattle.layout.specs.Inner.{Formed}
 use Rattle.layout.specs.Answers.{number, detail, Result, result, onLive}

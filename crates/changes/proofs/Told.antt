@@ -16,21 +16,25 @@ use Rattle.commands.specs.declared.Change.{Change}
 use Rattle.commands.specs.declared.Change.the-variants.{Transfer}
 use Rattle.desk.specs.Desk.{Desk, Outcome, deskOf, outcome, deskFits, deskEdit}
 use Rattle.desk.proofs.Edits.{desk-fits-of}
-use Rattle.wording.specs.Pages.{Page, page, write}
+use Rattle.wording.specs.Pages.{page, write}
 use Rattle.entry_sheets.specs.Entries.{numberAlone, transferSaid}
-use Rattle.changes.specs.Changes.{changed, sheet, Told, told, written, unwritten, changeTold}
+use Rattle.changes.specs.Changes.{changed, sheet, told, written, unwritten, changeTold}
+use Rattle.changes.proofs.Kept.{changed-keeps}
 
 -- the call left d′ and answered a; r is what `is_done` found
 module _ (plain : Bool) (c : Change) (list : List ℕ) (d : Desk) (a : Answer) (d′ : Desk) (e : outcome a d′ ≡ changed c list d)
     (r : Bool) (er : r ≡ eqb (number a) 0) (b : List ℕ) (at : ℕ) where
   made : (z : Bool) → eqb (number a) 0 ≡ z
       → changeTold plain c list d (page b at)
-      ≡ cond z (written d′ (write (sheet plain c list d (outcome a d′)) (page b at))) (unwritten (outcome a d′) (page b at))
+      ≡ cond z (written d′ (write (sheet plain c list d (outcome a d′)) (page b at))) (unwritten (outcome a d′) d (page b at))
   unfolding changeTold
   made z h = rw (← e, h)
 
   pub change-refused : not r ≡ true → told a d′ b ≡ changeTold plain c list d (page b at)
-  change-refused h = sym (made false (sym er ∙ not-true r h))
+  change-refused h =
+      let z : eqb (number a) 0 ≡ false = sym er ∙ not-true r h in
+      let same : d′ ≡ d = ap (λ (o : Outcome). o .desk) e ∙ changed-keeps c list d (ap (λ (o : Outcome). eqb (o .number) 0) (sym e) ∙ z) in
+      ap (λ (x : Desk). told a x b) same ∙ sym (made false z)
 
   -- the sheet is written on the page b′, up to the place n
   pub change-done : not r ≡ false → (b′ : List ℕ) (n : ℕ) → page b′ n ≡ write (sheet plain c list d (outcome a d′)) (page b at)

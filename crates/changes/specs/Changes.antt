@@ -77,12 +77,12 @@ told a d bytes = record { number = number a; detail = detail a; desk = d; lent =
 abbrev pub written : Desk → Page → Told
 written d p = told (Done (p .next)) d (p .bytes)
 
--- refused as the call was, and nothing is written
-abbrev pub unwritten : Outcome → Page → Told
-unwritten o p = record { number = o .number; detail = o .detail; desk = o .desk; lent = p .bytes }
+-- refused as the call was: nothing changes, and nothing is written
+abbrev pub unwritten : Outcome → Desk → Page → Told
+unwritten o d p = record { number = o .number; detail = o .detail; desk = d; lent = p .bytes }
 
 -- make_change
 unfoldable pub changeTold : Bool → Change → List ℕ → Desk → Page → Told
 changeTold plain c list d p =
     let o = changed c list d in
-    cond (eqb (o .number) 0) (written (o .desk) (write (sheet plain c list d o) p)) (unwritten o p)
+    cond (eqb (o .number) 0) (written (o .desk) (write (sheet plain c list d o) p)) (unwritten o d p)

@@ -3,10 +3,8 @@ use mathlib.Core.Path.{_≡_, refl, sym, ap, subst, _∙_}
 use mathlib.Core.List.{List, [], _∷_, map}
 use Prim.Native.Nat.{ℕ, zero, suc, _+_, _≤_, _<_}
 use native.Mathlib.Nat.{le-of-suc-le-suc, not-suc-le-zero}
-use native.Mathlib.Omega.{arith}
 use lib.ListN.{length, getD, take, length-map}
 use lib.Seq.{take-all}
-use Rattle.trays.specs.declared.Withdrawal.{Withdrawal}
 use Rattle.trays.specs.Outcomes.{noRecord}
 use Rattle.tray_marks.specs.declared.Tray.{Tray}
 use Rattle.tray_marks.specs.Marking.{OpenFormed, opened, judged, trayOf}

@@ -1,12 +1,11 @@
 // The sheets of a review and of releases, by the states before. Plain has none.
 ghost use mathlib.Core.Path.{_≡_};
 ghost use mathlib.Core.Bool.{cond};
-ghost use mathlib.Core.List.{_∷_, []};
+ghost use mathlib.Core.List.{[]};
 ghost use lib.ListN.{length};
 ghost use Rattle.layout.specs.Layout.{limit, vertexLimit, read};
 ghost use Rattle.layout.specs.Inner.{Formed};
 ghost use Rattle.layout.specs.Answers.{detail};
-ghost use Rattle.wording.specs.Forms.{filled};
 ghost use Rattle.wording.specs.Pages.{page, write};
 ghost use Rattle.desk.specs.States.{released, inState};
 ghost use Rattle.state_sheets.specs.Signed.{reviewSaid, releaseSaid, releasesSaid};
