@@ -16,9 +16,6 @@ use layout::Answer;
 use query_sheets::first;
 use read_frames::copy_words;
 
-// Room for what is printed: the longest sheet is the closure of 256 tubes.
-pub const PAGE: usize = 2097152;
-
 // What the lines so far end with: 0 all are done, 1 one was refused, 2 one was misused; and how many bytes stand on the page.
 pub struct Ran {
     pub status: u8,
@@ -73,7 +70,10 @@ fn refuse(
 {
     let mut walk = [0u32; 256];
     let n = refuse_through(&mut walk, t, how, name, i, c, ns, answer, out);
-    Ran { status: 1, length: n }
+    Ran {
+        status: 1,
+        length: n,
+    }
 }
 
 // ---- one line
@@ -138,7 +138,10 @@ fn run_command(
 {
     if command_sheets::is_misused(how, i, c) {
         let n = misuses::put_misuse(how.single, i, c, line, out, 0);
-        return Ran { status: 2, length: n };
+        return Ran {
+            status: 2,
+            length: n,
+        };
     }
     let a = command_sheets::tell(t, s, how, name, c, ns, out, at);
     settle(t, how, name, i, c, ns, a, out)
@@ -171,7 +174,14 @@ fn run_line(
 
 // ---- all lines
 
-fn run_lines(t: &mut [u32], s: &mut [u32], how: Manner, name: &[u8], batch: &[u8], out: &mut [u8]) -> Ran
+fn run_lines(
+    t: &mut [u32],
+    s: &mut [u32],
+    how: Manner,
+    name: &[u8],
+    batch: &[u8],
+    out: &mut [u8],
+) -> Ran
     requires { ⌜ length (now batch) < 4294967295 ⌝ }
     ensures { λ r. ⌜ endedBy r (deskOf (now (t .exit)) (now (s .exit))) (now (out .exit)) ≡ carried how (now (name .entry)) 1 (linesOf (now (batch .entry))) (ended (deskOf (now (t .entry)) (now (s .entry))) (said 0 (page (now (out .entry)) 0))) ⌝ }
 {

@@ -1,31 +1,30 @@
 // Commands that change the table or the states. New texts are written beside the old ones, synced and renamed over them: the table's first,
 // the states' after it. The new file is made before the old one is read, so that two runs do not change one file at a time.
-use crate::files;
-use crate::files::PATH;
-use crate::files::Read;
-use crate::files::TEXT;
-use crate::files::part;
-use crate::files::put_ending;
 use crate::looks;
 use crate::looks::DONE;
 use crate::looks::FAILED;
 use crate::looks::MISUSED;
-use crate::looks::PAGE;
 use crate::looks::REFUSED;
+use crate::looks::manner;
+use clerk_files::PATH;
+use clerk_files::Read;
+use clerk_files::TEXT;
+use clerk_files::part;
+use clerk_files::put_ending;
 
 // ---- the new texts
 
 // The text is on the disk, and has its name.
 fn put_in_place(fd: i32, new: &[u8], name: &[u8], text: &[u8]) -> bool {
-    if !files::write_synced(fd, text) {
-        files::fail(new);
+    if !clerk_files::write_synced(fd, text) {
+        clerk_files::fail(new);
         return false;
     }
     if os::rename(new, name) != 0 {
-        files::fail(name);
+        clerk_files::fail(name);
         return false;
     }
-    files::sync_folder(name);
+    clerk_files::sync_folder(name);
     true
 }
 
@@ -35,10 +34,10 @@ fn put_states(changed: bool, new: &[u8], name: &[u8]) -> bool {
         return true;
     }
     if os::rename(new, name) != 0 {
-        files::fail(name);
+        clerk_files::fail(name);
         return false;
     }
-    files::sync_folder(name);
+    clerk_files::sync_folder(name);
     true
 }
 
@@ -47,13 +46,13 @@ fn write_states(changed: bool, new: &[u8], text: &[u8]) -> bool {
     if !changed {
         return true;
     }
-    let fd = files::open_new(new);
+    let fd = clerk_files::open_new(new);
     if fd < 0 {
         return false;
     }
-    let written = files::write_synced(fd, text);
+    let written = clerk_files::write_synced(fd, text);
     if !written {
-        files::fail(new);
+        clerk_files::fail(new);
         os::unlink(new);
     }
     libc::close(fd);
@@ -75,11 +74,11 @@ fn store_text(
         if states_too {
             os::unlink(desk_new);
         }
-        files::say_of(name, b" was not changed\n");
+        clerk_files::say_of(name, b" was not changed\n");
         return FAILED;
     }
     if !put_states(states_too, desk_new, desk) {
-        files::say_of(name, b" was changed, its states were not\n");
+        clerk_files::say_of(name, b" was changed, its states were not\n");
         return FAILED;
     }
     DONE
@@ -112,7 +111,7 @@ fn store(
 ) -> u8 {
     if !write_states(states_too, desk_new, states) {
         os::unlink(new);
-        files::say_of(name, b" was not changed\n");
+        clerk_files::say_of(name, b" was not changed\n");
         return FAILED;
     }
     if text_too {
@@ -142,14 +141,14 @@ fn store_desk(
     let mut text_now = [0u8; TEXT];
     let n = looks::written(t, &mut text_now);
     let mut states_now = [0u8; TEXT];
-    let k = states_text::put_states(t, s, &mut states_now, 0);
+    let k = looks::states_written(t, s, &mut states_now);
     let text_now = part(&text_now, n);
     let states_now = part(&states_now, k);
-    let text_too = !files::same(text_now, text);
-    let states_too = !files::same(states_now, states);
-    if !files::are_still(name, text, desk, states) {
+    let text_too = !clerk_files::same(text_now, text);
+    let states_too = !clerk_files::same(states_now, states);
+    if !clerk_files::are_still(name, text, desk, states) {
         os::unlink(new);
-        files::say_of(
+        clerk_files::say_of(
             name,
             b" was changed by another program meanwhile; nothing was changed\n",
         );
@@ -175,7 +174,7 @@ fn print_stored(status: u8, name: &[u8], sheet: &[u8]) -> u8 {
     }
     let printed = looks::print(DONE, sheet);
     if printed != DONE {
-        files::say_of(name, b" was changed\n");
+        clerk_files::say_of(name, b" was changed\n");
     }
     printed
 }
@@ -198,8 +197,9 @@ fn edit_texts(
         os::unlink(new);
         return REFUSED;
     }
-    let mut page = [0u8; PAGE];
-    let ran = batches::run(&mut t, &mut s, false, batch, single, plain, name, &mut page);
+    let mut page = clerk_files::page();
+    let how = manner(plain, single, false);
+    let ran = batches::run(&mut t, &mut s, how, name, batch, &mut page);
     if ran.status != DONE {
         os::unlink(new);
         return looks::print(ran.status, part(&page, ran.length));
@@ -220,10 +220,10 @@ fn edit_text(
     plain: bool,
 ) -> u8 {
     let mut states = [0u8; TEXT];
-    let got = files::read_optional(desk, &mut states);
+    let got = clerk_files::read_optional(desk, &mut states);
     match got {
         Read::Failed => {
-            files::fail(desk);
+            clerk_files::fail(desk);
             os::unlink(new);
             FAILED
         }
@@ -256,10 +256,10 @@ fn edit_open(
     plain: bool,
 ) -> u8 {
     let mut text = [0u8; TEXT];
-    let got = files::read_file(name, &mut text);
+    let got = clerk_files::read_file(name, &mut text);
     match got {
         Read::Failed => {
-            files::fail(name);
+            clerk_files::fail(name);
             os::unlink(new);
             FAILED
         }
@@ -274,15 +274,15 @@ fn edit_open(
 
 // Numbers start anew: no state of an earlier file may count, so the states go first.
 fn drop_states(desk: &[u8]) -> bool {
-    if files::is_missing(desk) {
+    if clerk_files::is_missing(desk) {
         return true;
     }
     if os::unlink(desk) != 0 {
-        files::fail(desk);
+        clerk_files::fail(desk);
         return false;
     }
-    files::say_of(desk, b" was of an earlier file, and is removed\n");
-    files::sync_folder(desk);
+    clerk_files::say_of(desk, b" was of an earlier file, and is removed\n");
+    clerk_files::sync_folder(desk);
     true
 }
 
@@ -298,8 +298,9 @@ fn make_open(
 ) -> u8 {
     let mut t = [0u32; layout::SIZE];
     let mut s = [0u32; layout::VERTEX_LIMIT];
-    let mut page = [0u8; PAGE];
-    let ran = batches::run(&mut t, &mut s, true, batch, single, plain, name, &mut page);
+    let mut page = clerk_files::page();
+    let how = manner(plain, single, true);
+    let ran = batches::run(&mut t, &mut s, how, name, batch, &mut page);
     if ran.status != DONE {
         os::unlink(new);
         return looks::print(ran.status, part(&page, ran.length));
@@ -325,7 +326,7 @@ fn begin(
     single: bool,
     plain: bool,
 ) -> u8 {
-    let fd = files::open_new(new);
+    let fd = clerk_files::open_new(new);
     if fd < 0 {
         return FAILED;
     }
@@ -348,9 +349,9 @@ fn carry_out(
     if !makes {
         return edit_open(fd, name, new, desk, desk_new, batch, single, plain);
     }
-    if !files::is_missing(name) {
+    if !clerk_files::is_missing(name) {
         os::unlink(new);
-        files::say_of(name, b" is there already; nothing was changed\n");
+        clerk_files::say_of(name, b" is there already; nothing was changed\n");
         return REFUSED;
     }
     make_open(fd, name, new, desk, desk_new, batch, single, plain)
@@ -358,8 +359,10 @@ fn carry_out(
 
 // Edits the file, or makes it.
 pub fn edit(makes: bool, name: &[u8], batch: &[u8], single: bool, plain: bool) -> u8 {
-    if files::is_dash(name) {
-        files::say(b"vaultsorrel: - is standard input, which is not written back; name a file\n");
+    if clerk_files::is_dash(name) {
+        clerk_files::say(
+            b"vaultsorrel: - is standard input, which is not written back; name a file\n",
+        );
         return MISUSED;
     }
     let mut new = [0u8; PATH];

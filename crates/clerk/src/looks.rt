@@ -1,11 +1,8 @@
 // Commands that change nothing: the text is read, and the sheet printed.
-use crate::files;
-use crate::files::Read;
-use crate::files::TEXT;
-use crate::files::part;
-
-// Room for what is printed: the longest sheet is the closure of 256 tubes.
-pub const PAGE: usize = 2097152;
+use clerk_files::Read;
+use clerk_files::TEXT;
+use clerk_files::part;
+use command_sheets::Manner;
 
 // What a run ends with.
 pub const DONE: u8 = 0;
@@ -18,10 +15,10 @@ pub const FAILED: u8 = 3;
 
 // Says that a text is faulty, and at which line.
 fn say_faulty(name: &[u8], text: &[u8], line: usize) {
-    let mut page = [0u8; files::PATH];
-    let crlf = messages::ends_in_cr_lf(text, line);
+    let mut page = [0u8; clerk_files::PATH];
+    let crlf = text_lines::ends_in_cr_lf(text, line);
     let n = messages::put_faulty(name, line as u64, crlf, &mut page, 0);
-    files::say(part(&page, n));
+    clerk_files::say(part(&page, n));
 }
 
 // Fills table and states from their texts; a text that is faulty is named.
@@ -42,7 +39,7 @@ pub fn load(
         }
         _ => return false,
     }
-    let stated = states_text::read_states(t, states, s);
+    let stated = read_states::read_states(t, states, s);
     match stated {
         layout::Answer::Done(_) => true,
         layout::Answer::BadText(line) => {
@@ -62,10 +59,18 @@ pub fn written(t: &[u32], text: &mut [u8]) -> usize {
     }
 }
 
+// The states' text, and how many bytes it has.
+pub fn states_written(t: &[u32], s: &[u32], text: &mut [u8]) -> usize {
+    if !desk_fits::desk_fits(t, s) {
+        return 0;
+    }
+    put_states::put_states(t, s, text, 0)
+}
+
 // Prints what a run wrote: the sheet of one that is done, else the message.
 pub fn print(status: u8, text: &[u8]) -> u8 {
     if status != DONE {
-        files::say(text);
+        clerk_files::say(text);
         return status;
     }
     if !io::write_all(libc::STDOUT_FILENO, text) {
@@ -75,12 +80,21 @@ pub fn print(status: u8, text: &[u8]) -> u8 {
     DONE
 }
 
+pub fn manner(plain: bool, single: bool, makes: bool) -> Manner {
+    Manner {
+        plain,
+        single,
+        makes,
+    }
+}
+
 // Commands that want no file.
 pub fn answer_alone(batch: &[u8], plain: bool) -> u8 {
     let mut t = [0u32; layout::SIZE];
     let mut s = [0u32; layout::VERTEX_LIMIT];
-    let mut page = [0u8; PAGE];
-    let ran = batches::run(&mut t, &mut s, false, batch, true, plain, b"", &mut page);
+    let mut page = clerk_files::page();
+    let how = manner(plain, true, false);
+    let ran = batches::run(&mut t, &mut s, how, b"", batch, &mut page);
     print(ran.status, part(&page, ran.length))
 }
 
@@ -98,19 +112,20 @@ fn answer_texts(
     if !load(name, text, desk, states, &mut t, &mut s) {
         return REFUSED;
     }
-    let mut page = [0u8; PAGE];
-    let ran = batches::run(&mut t, &mut s, false, batch, single, plain, name, &mut page);
+    let mut page = clerk_files::page();
+    let how = manner(plain, single, false);
+    let ran = batches::run(&mut t, &mut s, how, name, batch, &mut page);
     print(ran.status, part(&page, ran.length))
 }
 
 fn answer_text(name: &[u8], text: &[u8], batch: &[u8], single: bool, plain: bool) -> u8 {
-    let mut desk = [0u8; files::PATH];
-    let d = files::put_ending(&mut desk, name, b".desk");
+    let mut desk = [0u8; clerk_files::PATH];
+    let d = clerk_files::put_ending(&mut desk, name, b".desk");
     let mut states = [0u8; TEXT];
-    let got = files::read_optional(part(&desk, d), &mut states);
+    let got = clerk_files::read_optional(part(&desk, d), &mut states);
     match got {
         Read::Failed => {
-            files::fail(part(&desk, d));
+            clerk_files::fail(part(&desk, d));
             FAILED
         }
         Read::Bytes(k) => {
@@ -123,10 +138,10 @@ fn answer_text(name: &[u8], text: &[u8], batch: &[u8], single: bool, plain: bool
 // The text on standard input; it has no states.
 fn answer_input(batch: &[u8], single: bool, plain: bool) -> u8 {
     let mut text = [0u8; TEXT];
-    let got = files::read_to_end(libc::STDIN_FILENO, &mut text, 0);
+    let got = clerk_files::read_to_end(libc::STDIN_FILENO, &mut text, 0);
     match got {
         Read::Failed => {
-            files::fail(b"standard input");
+            clerk_files::fail(b"standard input");
             FAILED
         }
         Read::Bytes(n) => {
@@ -138,14 +153,14 @@ fn answer_input(batch: &[u8], single: bool, plain: bool) -> u8 {
 
 // The file's text.
 pub fn answer(name: &[u8], batch: &[u8], single: bool, plain: bool) -> u8 {
-    if files::is_dash(name) {
+    if clerk_files::is_dash(name) {
         return answer_input(batch, single, plain);
     }
     let mut text = [0u8; TEXT];
-    let got = files::read_file(name, &mut text);
+    let got = clerk_files::read_file(name, &mut text);
     match got {
         Read::Failed => {
-            files::fail(name);
+            clerk_files::fail(name);
             FAILED
         }
         Read::Bytes(n) => answer_text(name, part(&text, n), batch, single, plain),

@@ -3,7 +3,10 @@
 mod edits;
 mod looks;
 
-use clerk_files as files;
+use clerk_files::Read;
+use clerk_files::arguments;
+use clerk_files::arguments::Words;
+use clerk_files::part;
 
 // Descriptor 9 is the launcher's.
 const LAUNCHER: i32 = 9;
@@ -23,24 +26,24 @@ fn with_file(words: Words, name: &[u8], line: &[u8]) -> u8 {
     if words.given {
         return serve(name, line, true, plain);
     }
-    if files::is_dash(name) {
-        files::say(b"vaultsorrel: - is standard input, so the command must follow it\n");
+    if clerk_files::is_dash(name) {
+        clerk_files::say(b"vaultsorrel: - is standard input, so the command must follow it\n");
         return MISUSED;
     }
     serve_batch(name, plain)
 }
 
 fn serve_batch(name: &[u8], plain: bool) -> u8 {
-    let mut batch = [0u8; arguments::BATCH];
-    let got = files::read_to_end(libc::STDIN_FILENO, &mut batch, 0);
+    let mut batch = arguments::batch();
+    let got = clerk_files::read_to_end(libc::STDIN_FILENO, &mut batch, 0);
     match got {
-        files::Read::Failed => {
+        Read::Failed => {
             os::fail(b"vaultsorrel: standard input");
             3
         }
-        files::Read::Bytes(n) => {
+        Read::Bytes(n) => {
             if n == arguments::BATCH {
-                files::say(
+                clerk_files::say(
                     b"vaultsorrel: a batch has less than 1048576 bytes; nothing was changed\n",
                 );
                 return MISUSED;
@@ -50,29 +53,29 @@ fn serve_batch(name: &[u8], plain: bool) -> u8 {
     }
 }
 
-// One command, or a batch.
+// One command, or a batch: a file is made, edited, or looked at.
 fn serve(name: &[u8], batch: &[u8], single: bool, plain: bool) -> u8 {
-    let purpose = batches::purpose(batch);
-    match purpose {
-        batches::Purpose::Alone => looks::answer_alone(batch, plain),
-        batches::Purpose::Looks => looks::answer(name, batch, single, plain),
-        batches::Purpose::Edits => edits::edit(false, name, batch, single, plain),
-        batches::Purpose::Makes => edits::edit(true, name, batch, single, plain),
+    if arguments::opens_with_init(batch) {
+        return edits::edit(true, name, batch, single, plain);
     }
+    if batch_changes::has_change(batch) {
+        return edits::edit(false, name, batch, single, plain);
+    }
+    looks::answer(name, batch, single, plain)
 }
 
 fn start() -> u8 {
-    let mut name = [0u8; arguments::NAME];
-    let mut line = [0u8; arguments::BATCH];
+    let mut name = io::buffer();
+    let mut line = arguments::batch();
     let words = arguments::gather(&mut name, &mut line);
     let n = words.name;
     let k = words.line;
     if words.bad {
-        files::say(b"vaultsorrel: an argument is too long, or has a line feed in it\n");
+        clerk_files::say(b"vaultsorrel: an argument is too long, or has a line feed in it\n");
         return MISUSED;
     }
     if !words.named {
-        files::say(b"vaultsorrel: no file is named; vaultsorrel help says what it takes\n");
+        clerk_files::say(b"vaultsorrel: no file is named; vaultsorrel help says what it takes\n");
         return MISUSED;
     }
     if arguments::stands_alone(part(&name, n)) {
@@ -81,7 +84,18 @@ fn start() -> u8 {
     with_file(words, part(&name, n), part(&line, k))
 }
 
+// The digit of a status.
+fn digit(status: u8) -> u8 {
+    match status {
+        0 => b'0',
+        1 => b'1',
+        2 => b'2',
+        _ => b'3',
+    }
+}
+
 fn main() {
     let status = start();
-    io::write_all(LAUNCHER, &[48 + status]);
+    let told = [digit(status)];
+    io::write_all(LAUNCHER, &told);
 }

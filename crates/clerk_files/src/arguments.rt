@@ -1,4 +1,7 @@
 // The words that the program was started with: the file, the command and its arguments, and `--plain` anywhere among them.
+ghost use mathlib.Core.Path.{_≡_};
+ghost use lib.ListN.{length};
+use crate::part;
 use crate::same;
 use wording::put_text;
 
@@ -6,6 +9,13 @@ use wording::put_text;
 pub const NAME: usize = 4096;
 
 pub const BATCH: usize = 1048576;
+
+// Room for a batch.
+pub fn batch() -> [u8; BATCH]
+    ensures { λ r. ⌜ 1048576 ≡ length r ⌝ }
+{
+    [0; BATCH]
+}
 
 // What the words say: the name's bytes and the command line's, and whether there are any.
 pub struct Words {
@@ -43,6 +53,14 @@ pub fn stands_alone(name: &[u8]) -> bool {
         return true;
     }
     same(name, b"--version")
+}
+
+// Whether the first line of a batch is `init`: a file is to be made.
+pub fn opens_with_init(batch: &[u8]) -> bool {
+    if same(batch, b"init") {
+        return true;
+    }
+    same(part(batch, 5), b"init\n")
 }
 
 // The command that such a word means.

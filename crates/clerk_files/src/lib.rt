@@ -1,4 +1,7 @@
 // Files: read whole, written beside the old one, synced and renamed over it.
+ghost use mathlib.Core.Path.{_≡_};
+ghost use lib.ListN.{length};
+
 pub mod arguments;
 
 use wording::put_text;
@@ -14,6 +17,15 @@ pub const TEXT: usize = 65536;
 
 // A name with an ending, or a message with a name.
 pub const PATH: usize = 4160;
+
+// Room for what is printed: the longest sheet is the closure of 256 tubes.
+pub const PAGE: usize = 2097152;
+
+pub fn page() -> [u8; PAGE]
+    ensures { λ r. ⌜ 2097152 ≡ length r ⌝ }
+{
+    [0; PAGE]
+}
 
 // The first n bytes, or all.
 pub fn part(bytes: &[u8], n: usize) -> &[u8] {

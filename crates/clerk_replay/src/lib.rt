@@ -1,7 +1,7 @@
 // Commands carried out as the program does, one after the other on a table that begins empty, and printed with what each says.
-use batches::Manner;
 use clerk_files::Read;
 use clerk_files::part;
+use command_sheets::Manner;
 use libc::STDOUT_FILENO;
 
 // A line with this before it asks for numbers only.
@@ -41,7 +41,7 @@ fn replay_line(t: &mut [u32], s: &mut [u32], line: &[u8], makes: bool) {
         single: true,
         makes,
     };
-    let mut page = [0u8; batches::PAGE];
+    let mut page = clerk_files::page();
     let ran = batches::run(t, s, manner, b"day.frames", command, &mut page);
     io::write_all(STDOUT_FILENO, part(&page, ran.length));
 }

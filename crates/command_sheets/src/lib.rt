@@ -133,4 +133,3 @@ fn stands_first(how: Manner, i: u32) -> bool
     }
     i == 1
 }
-

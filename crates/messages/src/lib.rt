@@ -34,7 +34,7 @@ pub fn put_ending(out: &mut [u8], at: usize, change: bool) -> usize
 }
 
 // A change.
-fn is_change(c: Command) -> bool
+pub fn is_change(c: Command) -> bool
     ensures { λ r. ⌜ r ≡ isChange anyChange c ⌝ }
 {
     match c {

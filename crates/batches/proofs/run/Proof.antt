@@ -27,10 +27,11 @@ slice-aggregate-run-copied-2 : tie.Need-slice-aggregate-run-copied-2
 slice-aggregate-run-copied-2 c = search needs
 
 run-copied-requires : tie.Need-run-copied-requires
-run-copied-requires c κs = 
-    (length-replicate {A = ℕ} (size limit) 0 ∙ sym (search table-length),
-    length-replicate {A = ℕ} vertexLimit 0 ∙ sym (search states-length),
-    search batch-short)
+run-copied-requires c κs = (
+  length-replicate {A = ℕ} (size limit) 0 ∙ sym (search table-length),
+  length-replicate {A = ℕ} vertexLimit 0 ∙ sym (search states-length),
+  search batch-short,
+)
 
 same-length-3 : tie.Need-same-length-3
 same-length-3 c = search needs
