@@ -78,7 +78,8 @@ fn store_text(
         return FAILED;
     }
     if !put_states(states_too, desk_new, desk) {
-        clerk_files::say_of(name, b" was changed, its states were not\n");
+        clerk_files::say_of(name, b" was changed; its new states are left in:\n");
+        clerk_files::say_of(desk_new, b"\n");
         return FAILED;
     }
     DONE

@@ -39,6 +39,10 @@ pub fn load(
         }
         _ => return false,
     }
+    if states.len() == TEXT {
+        clerk_files::say_of(desk, b" is longer than a text of states can be\n");
+        return false;
+    }
     let stated = read_states::read_states(t, states, s);
     match stated {
         layout::Answer::Done(_) => true,

@@ -24,6 +24,10 @@ fn without_file(words: Words, name: &[u8], line: &[u8]) -> u8 {
 fn with_file(words: Words, name: &[u8], line: &[u8]) -> u8 {
     let plain = words.plain;
     if words.given {
+        if line.len() == 0 {
+            clerk_files::say(b"vaultsorrel: '' is no command; help lists them\n");
+            return MISUSED;
+        }
         return serve(name, line, true, plain);
     }
     if clerk_files::is_dash(name) {

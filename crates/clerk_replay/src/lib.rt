@@ -46,17 +46,21 @@ fn replay_line(t: &mut [u32], s: &mut [u32], line: &[u8], makes: bool) {
     io::write_all(STDOUT_FILENO, part(&page, ran.length));
 }
 
-fn replay_lines(commands: &[u8]) {
-    let mut t = [0u32; layout::SIZE];
-    let mut s = [0u32; layout::VERTEX_LIMIT];
+fn replay_lines(t: &mut [u32], s: &mut [u32], commands: &[u8]) {
     let mut makes = true;
     let mut at = 0;
     while at < commands.len() {
         let end = text_lines::line_end(commands, at);
-        replay_line(&mut t, &mut s, &commands[at..end], makes);
+        replay_line(t, s, &commands[at..end], makes);
         at = text_lines::line_next(commands, at, end);
         makes = false;
     }
+}
+
+fn replay_commands(commands: &[u8]) {
+    let mut t = [0u32; layout::SIZE];
+    let mut s = [0u32; layout::VERTEX_LIMIT];
+    replay_lines(&mut t, &mut s, commands);
 }
 
 // The commands of a file, a line each; the first is carried out for a file that is made.
@@ -65,6 +69,6 @@ pub fn replay(path: &[u8]) {
     let got = clerk_files::read_file(path, &mut commands);
     match got {
         Read::Failed => os::fail(path),
-        Read::Bytes(n) => replay_lines(part(&commands, n)),
+        Read::Bytes(n) => replay_commands(part(&commands, n)),
     }
 }
