@@ -31,6 +31,11 @@ assert text in (old_text, new_text), "the text is neither the old one nor the ne
 assert (states or b"") in (old_states or b"", new_states or b"", b""), "the states are neither the old ones nor the new ones"
 if old_text is not None:
     assert (states or b"") in (old_states or b"", new_states or b""), "the states are lost"
-allowed = released(old_text, old_states) if text == old_text else released(new_text, new_states) | (
-    released(old_text, old_states) & live(new_text) if old_text is not None else set())
+allowed = set()
+if text == old_text:
+    allowed |= released(old_text, old_states)
+if text == new_text:
+    allowed |= released(new_text, new_states)
+    if old_text is not None:
+        allowed |= released(old_text, old_states) & live(new_text)
 assert released(text, states) <= allowed, f"released {released(text, states)}, and {allowed} are"
