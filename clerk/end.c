@@ -1,5 +1,6 @@
 /* A library to preload: the process ends at its N-th call that reaches the system (END_AT=N), without carrying it out, or, with END_HALF set,
-   after half of a write. Calls are counted in the file that END_COUNT names when the process ends by itself. */
+   after half of a write. With END_SWAP it does not end there: the file that END_SWAP names is renamed to day.frames first. Calls are counted in
+   the file that END_COUNT names when the process ends by itself. */
 #define _GNU_SOURCE
 #include <dlfcn.h>
 #include <fcntl.h>
@@ -31,10 +32,16 @@ static void finish(void) {
     fclose(f);
 }
 
+typedef int (*rename_t)(const char *, const char *);
+
 /* Whether this is the call at which the process ends. */
 static int due(void) {
+    const char *swap = getenv("END_SWAP");
     calls++;
-    return calls == end_at;
+    if (calls != end_at) return 0;
+    if (swap == NULL) return 1;
+    ((rename_t)dlsym(RTLD_NEXT, "rename"))(swap, "day.frames");
+    return 0;
 }
 
 #define NEXT(type, name) type next_##name = (type)dlsym(RTLD_NEXT, #name)
@@ -90,7 +97,6 @@ int close(int fd) {
     return next_close(fd);
 }
 
-typedef int (*rename_t)(const char *, const char *);
 int rename(const char *from, const char *to) {
     if (due()) _exit(99);
     NEXT(rename_t, rename);
