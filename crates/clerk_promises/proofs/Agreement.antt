@@ -63,9 +63,10 @@ desk-release-numbers-agrees κs args a b x y p q = agree _ p q
 
 outcomes-agree : (o : Outcome) {a b : Answer} {x y : Desk} → outcome a x ≡ o → outcome b y ≡ o → (a ≡ b) × (x ≡ y)
 outcomes-agree o {a} {b} {x} {y} p q =
-    let same : outcome a x ≡ outcome b y = p ∙ sym q in
-    (agree (result b []) {a = a} {b = b} {x = []} {y = []} (ap (λ (z : Outcome). record { number = z .number; detail = z .detail; lent = [] }) same) refl .0,
-    ap (λ (z : Outcome). z .desk) same)
+    let same : outcome a x ≡ outcome b y = p ∙ sym q in (
+      agree (result b []) {a = a} {b = b} {x = []} {y = []} (ap (λ (z : Outcome). record { number = z .number; detail = z .detail; lent = [] }) same) refl .0,
+      ap (λ (z : Outcome). z .desk) same,
+    )
 
 pub desk-withdraw-numbers-agrees : AgreesOn 3 desk-withdraw-numbers.ps desk-withdraw-numbers.r desk-withdraw-numbers-reads.Post (λ _ x. deskOf (now (x .0)) (now (x .1 .0)))
 desk-withdraw-numbers-agrees κs args a b x y p q = outcomes-agree _ p q
@@ -78,9 +79,10 @@ Left = Desk × List ℕ
 
 tolds-agree : (t : Told) {a b : Answer} {d e : Desk} {bs cs : List ℕ} → told a d bs ≡ t → told b e cs ≡ t → (a ≡ b) × (_≡_ {A = Left} (d, bs) (e, cs))
 tolds-agree t {a} {b} {d} {e} {bs} {cs} p q =
-    let same : told a d bs ≡ told b e cs = p ∙ sym q in
-    (agree (result b cs) {a = a} {b = b} {x = bs} {y = cs} (ap (λ (x : Told). record { number = x .number; detail = x .detail; lent = x .lent }) same) refl .0,
-    ap (λ (x : Told). (x .desk, x .lent)) same)
+    let same : told a d bs ≡ told b e cs = p ∙ sym q in (
+      agree (result b cs) {a = a} {b = b} {x = bs} {y = cs} (ap (λ (x : Told). record { number = x .number; detail = x .detail; lent = x .lent }) same) refl .0,
+      ap (λ (x : Told). (x .desk, x .lent)) same,
+    )
 
 pub make-change-agrees : AgreesOn {A = Left} 4 make-change.ps make-change.r make-change-reads.Post (λ _ x. (deskOf (now (x .0)) (now (x .1 .0)), now (x .1 .1 .1 .1 .1 .0)))
 make-change-agrees κs args a b x y p q = tolds-agree _ p q
