@@ -1,4 +1,6 @@
 // Adding a hyperedge.
+#![tactic(auto)]
+
 ghost use Rattle.std.specs.Prelude.{◌≡◌, ◌+◌, ◌<◌, ◌≤◌, length};
 ghost use Rattle.layout.specs.Layout.{limit, hyperedge_limit, size, hyperedge_count, hyperedge_at, read_hyperedges, read};
 ghost use Rattle.layout.specs.Inner.{Formed};

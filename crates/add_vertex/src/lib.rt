@@ -1,4 +1,6 @@
 // Adding a vertex.
+#![tactic(auto)]
+
 ghost use Rattle.std.specs.Prelude.{◌≡◌, ◌<◌, length};
 ghost use Rattle.layout.specs.Layout.{limit, vertex_limit, size, read};
 ghost use Rattle.layout.specs.Inner.{Formed};

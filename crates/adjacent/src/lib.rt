@@ -1,4 +1,6 @@
 // The vertices that some list relates to a vertex: adjacent ones, and the neighbourhood.
+#![tactic(auto)]
+
 ghost use Rattle.std.specs.Prelude.{◌≡◌, ◌<◌, length};
 ghost use Rattle.layout.specs.Content.{live_vertices};
 ghost use Rattle.layout.specs.Layout.{limit, vertex_limit, hyperedge_count, hyperedge_at, read};

@@ -1,4 +1,6 @@
 // What a clerk asks of a table, passed on to the entry point that answers it.
+#![tactic(auto)]
+
 ghost use Rattle.std.specs.Prelude.{◌≡◌};
 ghost use Rattle.layout.specs.Answers.{result_of};
 ghost use Rattle.asking.specs.Asking.{asked};

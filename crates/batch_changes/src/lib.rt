@@ -1,4 +1,6 @@
 // Whether a batch can change anything.
+#![tactic(auto)]
+
 ghost use Rattle.std.specs.Prelude.{◌≡◌};
 ghost use Rattle.batch_changes.specs.Changing.{changing, has_change};
 

@@ -1,4 +1,6 @@
 // Commands carried out, one line after the other, all or none.
+#![tactic(auto)]
+
 ghost use Rattle.std.specs.Prelude.{◌≡◌, ◌<◌, length, take};
 ghost use Rattle.layout.specs.Layout.{limit, size, vertex_limit};
 ghost use Rattle.layout.specs.Answers.{number, detail, result_of};

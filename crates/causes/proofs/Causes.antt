@@ -7,8 +7,6 @@ use native.Mathlib.Nat.{mod-add-mod}
 use native.Mathlib.Numerals.{add-one}
 use native.Mathlib.Omega.{arith}
 use lib.ListN.{length, take, drop}
-use types.Run.{OneOf, miss}
-use denote.Enum.Declared.{tag_of}
 use borrow.Author.Tests.{eq-eqb, ne_eqb}
 use Rattle.lists.specs.Lists.{word_at}
 use Rattle.wording.specs.Texts.{text}
@@ -17,10 +15,8 @@ use Rattle.wording.specs.Forms.{filled, joined}
 use Rattle.wording.proofs.Writing.{nothing_written, then}
 use Rattle.text_lines.specs.Lines.{line_at, Ends, Stands}
 use Rattle.text_lines.proofs.Lines.{line-part}
-use Rattle.commands.specs.contracts.Command as commands
 use Rattle.commands.specs.declared.Command.{Command}
 use Rattle.commands.specs.declared.Command.TheVariants.{Init, Ask, View, Make, Help, HelpOn, Version, Unknown, NotNumber, WrongCount, TooMany}
-use Rattle.commands.specs.contracts.Change as changes
 use Rattle.commands.specs.declared.Change.{Change}
 use Rattle.commands.specs.declared.Change.TheVariants.{Tube, Transfer, Relist, WithdrawTubes, WithdrawTransfers, Merge, Review, Release}
 use Rattle.causes.specs.Causes.{causes, named, cause, is_change, transfer_tray, cause_number, walk_text, no_order, cause_text}
@@ -32,13 +28,13 @@ unfolding transfer_tray
 is-tray m e = rw e
 
 -- any change but that
-pub is-no-tray : (m : Change) → OneOf (0 ∷ 1 ∷ 2 ∷ 3 ∷ 5 ∷ 6 ∷ 7 ∷ []) (tag_of changes.the_type m) → false ≡ transfer_tray m
+pub is-no-tray : (m : Change) → (m ≡ WithdrawTransfers → ⊥) → false ≡ transfer_tray m
 unfolding transfer_tray
 is-no-tray (Tube w) k = refl
 is-no-tray (Transfer w) k = refl
 is-no-tray (Relist e) k = refl
 is-no-tray WithdrawTubes k = refl
-is-no-tray WithdrawTransfers k = absurd (miss (0 ∷ 1 ∷ 2 ∷ 3 ∷ 5 ∷ 6 ∷ 7 ∷ []) 4 tt k)
+is-no-tray WithdrawTransfers k = absurd (k refl)
 is-no-tray (Merge v w) k = refl
 is-no-tray (Review v) k = refl
 is-no-tray Release k = refl
@@ -49,12 +45,12 @@ module _ (p : Change → Bool) (c : Command) where
   a-change m b e f = rw e f
 
 -- any command but a change
-pub no_change : (p : Change → Bool) (c : Command) → OneOf (0 ∷ 1 ∷ 2 ∷ 4 ∷ 5 ∷ 6 ∷ 7 ∷ 8 ∷ 9 ∷ 10 ∷ []) (tag_of commands.the_type c) → false ≡ is_change p c
+pub no_change : (p : Change → Bool) (c : Command) → ((m : Change) → c ≡ Make m → ⊥) → false ≡ is_change p c
 unfolding is_change
 no_change p Init k = refl
 no_change p (Ask q) k = refl
 no_change p (View l) k = refl
-no_change p (Make m) k = absurd (miss (0 ∷ 1 ∷ 2 ∷ 4 ∷ 5 ∷ 6 ∷ 7 ∷ 8 ∷ 9 ∷ 10 ∷ []) 3 tt k)
+no_change p (Make m) k = absurd (k m refl)
 no_change p Help k = refl
 no_change p (HelpOn n) k = refl
 no_change p Version k = refl

@@ -1,4 +1,6 @@
 // Why a command was refused, written on a page.
+#![tactic(auto)]
+
 ghost use Rattle.std.specs.Prelude.{◌≡◌};
 ghost use Rattle.lists.specs.Lists.{word_at};
 ghost use Rattle.wording.specs.Pages.{page, write};

@@ -1,4 +1,6 @@
 // Changes at the desk that other transfers feel, each with its sheet: tubes withdrawn, and tubes merged.
+#![tactic(auto)]
+
 ghost use Rattle.std.specs.Prelude.{◌≡◌, true, [], length};
 ghost use Rattle.commands.specs.declared.Change.TheVariants.{WithdrawTubes, Merge};
 ghost use Rattle.layout.specs.Layout.{limit, size};

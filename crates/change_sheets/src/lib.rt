@@ -1,4 +1,6 @@
 // A change at the desk, with its sheet: the answer is the place behind the sheet, or the refusal of the call, which writes and changes nothing.
+#![tactic(auto)]
+
 ghost use Rattle.std.specs.Prelude.{◌≡◌, true};
 ghost use Rattle.desk.specs.Desk.{desk_of, desk_fits};
 ghost use Rattle.wording.specs.Pages.{page};

@@ -1,4 +1,6 @@
 // Changes of the states, each with its sheet: a review, and releases.
+#![tactic(auto)]
+
 ghost use Rattle.std.specs.Prelude.{◌≡◌, true, []};
 ghost use Rattle.commands.specs.declared.Change.TheVariants.{Review, Release};
 ghost use Rattle.desk.specs.Desk.{desk_of, desk_fits};

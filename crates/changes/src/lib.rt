@@ -1,4 +1,6 @@
 // Changes at the desk, each with its sheet: a tube, a transfer, a list, transfers withdrawn.
+#![tactic(auto)]
+
 ghost use Rattle.std.specs.Prelude.{◌≡◌, true, []};
 ghost use Rattle.commands.specs.declared.Change.TheVariants.{Tube, Transfer, Relist, WithdrawTransfers};
 ghost use Rattle.desk.specs.Desk.{desk_of, desk_fits};

@@ -1,4 +1,6 @@
 // The sheet of a check, written on a page.
+#![tactic(auto)]
+
 ghost use Rattle.std.specs.Prelude.{◌≡◌, eqb};
 ghost use Rattle.lists.specs.Tests.{bit};
 ghost use Rattle.layout.specs.Layout.{limit, read};

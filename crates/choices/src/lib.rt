@@ -1,4 +1,6 @@
 // The hyperedge that each step takes.
+#![tactic(auto)]
+
 ghost use Rattle.std.specs.Prelude.{◌≡◌, true, ◌<◌, ◌+◌, ◌*◌, length, get_or, set};
 ghost use Rattle.layout.specs.declared.Found.TheVariants.{At};
 ghost use Rattle.layout.specs.Content.{live_vertices, is_live, position};

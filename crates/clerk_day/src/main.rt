@@ -1,4 +1,8 @@
 // A day at the bench, as README.md shows it.
-fn main() {
-    clerk_replay::replay(b"commands");
+#![tactic(auto)]
+
+use std::io;
+
+fn main(rt: HostRuntime) -> io::Result<()> {
+    clerk_replay::replay(&rt, b"commands")
 }

@@ -2,6 +2,7 @@
 ghost use Rattle.std.specs.Prelude.{◌≡◌, length};
 
 use crate::{part, same};
+use std::env::{Env, FillError};
 use wording::put_text;
 
 // A file's name has fewer bytes than this, and so has an argument; a batch has fewer than that.
@@ -28,14 +29,7 @@ pub struct Words {
 }
 
 fn has_feed(word: &[u8]) -> bool {
-    let mut i = 0;
-    while i < word.len() {
-        if word[i] == 10 {
-            return true;
-        }
-        i += 1;
-    }
-    false
+    word.contains(&10)
 }
 
 // Whether the first word is a command that wants no file.
@@ -126,16 +120,24 @@ fn take_any(words: Words, word: &[u8], name: &mut [u8], line: &mut [u8]) -> Word
     take_name(words, word, name)
 }
 
-// Argument i; one that does not fit is bad.
-fn take_argument(i: usize, words: Words, name: &mut [u8], line: &mut [u8]) -> Words {
-    let mut word = io::buffer();
-    let n = os::arg(i, &mut word);
-    if os::errno() != 0 {
-        let mut bad = words;
-        bad.bad = true;
-        return bad;
+// Argument i, if there is one; one that does not fit is bad.
+fn take_argument(
+    env: &impl Env,
+    i: usize,
+    words: Words,
+    name: &mut [u8],
+    line: &mut [u8],
+) -> Option<Words> {
+    let mut word = [0u8; NAME];
+    match env.arg(i, &mut word) {
+        Ok(n) => Some(take_any(words, &word[..n], name, line)),
+        Err(FillError::NotPresent) => None,
+        Err(FillError::TooLong) => {
+            let mut bad = words;
+            bad.bad = true;
+            Some(bad)
+        }
     }
-    take_any(words, &word[..n], name, line)
 }
 
 fn no_words() -> Words {
@@ -150,14 +152,13 @@ fn no_words() -> Words {
 }
 
 // All of them, from the first behind the program's own name on.
-pub fn gather(name: &mut [u8], line: &mut [u8]) -> Words {
-    let n = os::arg_count();
+pub fn gather(env: &impl Env, name: &mut [u8], line: &mut [u8]) -> Words {
     let mut words = no_words();
-    let mut i = 1;
-    while i < n {
-        let more = take_argument(i, words, name, line);
-        words = more;
-        i += 1;
+    for i in 1..usize::MAX {
+        match take_argument(env, i, words, name, line) {
+            Some(more) => words = more,
+            None => break,
+        }
     }
     words
 }

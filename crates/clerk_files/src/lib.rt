@@ -1,16 +1,14 @@
 // Files: read whole, written beside the old one, synced and renamed over it.
+#![tactic(auto)]
+
 ghost use Rattle.std.specs.Prelude.{◌≡◌, length};
 
 pub mod arguments;
 
+use std::fs::File;
+use std::io::{ErrorKind, Read, Write};
+use std::{fs, io};
 use wording::put_text;
-
-// What reading to the end gives: how many bytes, or that a read failed; `errno` says why.
-#[derive(Clone, Copy)]
-pub enum Read {
-    Bytes(usize),
-    Failed,
-}
 
 // The longest frame text has 58,977 bytes: what follows the first 65,536 does not change the answer.
 pub const TEXT: usize = 65536;
@@ -35,31 +33,75 @@ pub fn part(bytes: &[u8], n: usize) -> &[u8] {
     bytes
 }
 
-pub fn say(text: &[u8]) {
-    io::write_all(libc::STDERR_FILENO, text);
+// A line on standard error; where that can't be written there is nobody to tell.
+pub fn say(rt: &HostRuntime, text: &[u8]) {
+    let _ = rt.stderr().write_all(text);
+}
+
+// What the system says of an error, without its number.
+fn put_error(what: &mut [u8], at: usize, error: &io::Error) -> usize {
+    let mut text = [0u8; 256];
+    let mut rest = &mut text[..];
+    let _ = write!(rest, "{error}");
+    put_text(what, at, without_number(&text))
+}
+
+// The text before its first zero, or before " (os error ".
+fn without_number(text: &[u8]) -> &[u8] {
+    for n in 0..text.len() {
+        if text[n] == 0 || text[n..].starts_with(b" (os error ") {
+            return part(text, n);
+        }
+    }
+    text
 }
 
 // What failed, and why.
-pub fn fail(name: &[u8]) {
+pub fn fail(rt: &HostRuntime, name: &[u8], error: &io::Error) {
     let mut what = [0u8; PATH];
     let a = put_text(&mut what, 0, b"vaultsorrel: ");
     let b = put_text(&mut what, a, name);
-    os::fail(part(&what, b));
+    let mut why = [0u8; 256];
+    let c = put_text(&mut why, 0, b": ");
+    let d = put_error(&mut why, c, error);
+    let e = put_text(&mut why, d, b"\n");
+    say(rt, part(&what, b));
+    say(rt, part(&why, e));
 }
 
 // A line about a file.
-pub fn say_of(name: &[u8], text: &[u8]) {
-    say(b"vaultsorrel: ");
-    say(name);
-    say(text);
+pub fn say_of(rt: &HostRuntime, name: &[u8], text: &[u8]) {
+    say(rt, b"vaultsorrel: ");
+    say(rt, name);
+    say(rt, text);
+}
+
+// A name as std takes it.
+fn path(name: &[u8]) -> io::Result<&str> {
+    match str::from_utf8(name) {
+        Ok(path) => Ok(path),
+        Err(_) => Err(io::Error::new(ErrorKind::InvalidInput, "the name is not UTF-8")),
+    }
+}
+
+fn open_read(rt: &HostRuntime, name: &[u8]) -> io::Result<File> {
+    File::open(rt, path(name)?)
+}
+
+pub fn rename(rt: &HostRuntime, from: &[u8], to: &[u8]) -> io::Result<()> {
+    fs::rename(rt, path(from)?, path(to)?)
+}
+
+pub fn unlink(rt: &HostRuntime, name: &[u8]) -> io::Result<()> {
+    fs::remove_file(rt, path(name)?)
 }
 
 // One read more, into what is left from a place on.
-fn read_more(fd: i32, bytes: &mut [u8], at: usize) -> isize {
+fn read_more<R: Read>(from: &mut R, bytes: &mut [u8], at: usize) -> io::Result<usize> {
     if at <= bytes.len() {
-        return libc::read(fd, &mut bytes[at..]);
+        return from.read(&mut bytes[at..]);
     }
-    0
+    Ok(0)
 }
 
 // How far a read of k bytes came.
@@ -72,76 +114,51 @@ fn moved(at: usize, k: usize, most: usize) -> usize {
     most
 }
 
-pub fn read_to_end(fd: i32, bytes: &mut [u8], from: usize) -> Read {
+// Reads to the end, or until the bytes from a place on are full, and tells how many there are then.
+pub fn read_to_end<R: Read>(reader: &mut R, bytes: &mut [u8], from: usize) -> io::Result<usize> {
     let most = bytes.len();
     let mut at = from;
-    let mut turns = u64::MAX;
-    while turns > 0 && at < most {
-        let got = read_more(fd, bytes, at);
-        if got < 0 {
-            return Read::Failed;
+    for _ in 0..u64::MAX {
+        if at >= most {
+            break;
         }
-        if got == 0 {
-            return Read::Bytes(at);
+        let k = read_more(reader, bytes, at)?;
+        if k == 0 {
+            break;
         }
-        let k = io::count(got, bytes);
         at = moved(at, k, most);
-        turns -= 1;
     }
-    Read::Bytes(at)
+    Ok(at)
 }
 
 // The bytes of the file, as many as fit.
-pub fn read_file(name: &[u8], bytes: &mut [u8]) -> Read {
-    let fd = os::open_read(name);
-    if fd < 0 {
-        return Read::Failed;
-    }
-    let got = read_to_end(fd, bytes, 0);
-    match got {
-        Read::Failed => Read::Failed,
-        Read::Bytes(n) => {
-            libc::close(fd);
-            Read::Bytes(n)
-        }
-    }
+pub fn read_file(rt: &HostRuntime, name: &[u8], bytes: &mut [u8]) -> io::Result<usize> {
+    let mut file = open_read(rt, name)?;
+    read_to_end(&mut file, bytes, 0)
 }
 
 // The same of a file that may be missing: it then has no bytes.
-pub fn read_optional(name: &[u8], bytes: &mut [u8]) -> Read {
-    let got = read_file(name, bytes);
-    match got {
-        Read::Bytes(n) => Read::Bytes(n),
-        Read::Failed => {
-            if os::errno() == libc::ENOENT {
-                return Read::Bytes(0);
+pub fn read_optional(rt: &HostRuntime, name: &[u8], bytes: &mut [u8]) -> io::Result<usize> {
+    match read_file(rt, name, bytes) {
+        Ok(n) => Ok(n),
+        Err(error) => {
+            if error.kind() == ErrorKind::NotFound {
+                return Ok(0);
             }
-            Read::Failed
+            Err(error)
         }
     }
 }
 
-pub fn is_missing(name: &[u8]) -> bool {
-    let fd = os::open_read(name);
-    if fd < 0 {
-        return os::errno() == libc::ENOENT;
+pub fn is_missing(rt: &HostRuntime, name: &[u8]) -> bool {
+    match open_read(rt, name) {
+        Ok(_) => false,
+        Err(error) => error.kind() == ErrorKind::NotFound,
     }
-    libc::close(fd);
-    false
 }
 
 pub fn same(a: &[u8], b: &[u8]) -> bool {
-    if a.len() != b.len() {
-        return false;
-    }
-    let mut i = 0;
-    while i < a.len() {
-        if a[i] != b[i] {
-            return false;
-        }
-        i += 1;
-    }
-    true
+    a == b
 }
 
 pub fn is_dash(name: &[u8]) -> bool {
@@ -149,49 +166,51 @@ pub fn is_dash(name: &[u8]) -> bool {
 }
 
 // Whether the file still has these bytes; one that may be missing has none.
-pub fn is_still(name: &[u8], text: &[u8]) -> bool {
+pub fn is_still(rt: &HostRuntime, name: &[u8], text: &[u8]) -> bool {
     let mut bytes = [0u8; TEXT];
-    let got = read_optional(name, &mut bytes);
-    match got {
-        Read::Failed => false,
-        Read::Bytes(n) => same(part(&bytes, n), text),
+    match read_optional(rt, name, &mut bytes) {
+        Err(_) => false,
+        Ok(n) => same(part(&bytes, n), text),
     }
 }
 
-pub fn are_still(name: &[u8], text: &[u8], desk: &[u8], states: &[u8]) -> bool {
-    if !is_still(name, text) {
+pub fn are_still(rt: &HostRuntime, name: &[u8], text: &[u8], desk: &[u8], states: &[u8]) -> bool {
+    if !is_still(rt, name, text) {
         return false;
     }
-    is_still(desk, states)
+    is_still(rt, desk, states)
+}
+
+fn create_new(rt: &HostRuntime, new: &[u8]) -> io::Result<File> {
+    File::options()
+        .write(true)
+        .create_new(true)
+        .open(rt, path(new)?)
 }
 
 // Makes a file that is not there yet; a leftover is named, and kept.
-pub fn open_new(new: &[u8]) -> i32 {
-    let fd = os::create(new);
-    if fd >= 0 {
-        return fd;
+pub fn open_new(rt: &HostRuntime, new: &[u8]) -> Option<File> {
+    match create_new(rt, new) {
+        Ok(file) => Some(file),
+        Err(error) => {
+            if error.kind() == ErrorKind::AlreadyExists {
+                say_of(
+                    rt,
+                    new,
+                    b" is there: another run is at work, or was ended; nothing was changed\n",
+                );
+                return None;
+            }
+            fail(rt, new, &error);
+            None
+        }
     }
-    if os::errno() == libc::EEXIST {
-        say_of(
-            new,
-            b" is there: another run is at work, or was ended; nothing was changed\n",
-        );
-        return fd;
-    }
-    fail(new);
-    fd
 }
 
 // Writes the text to a file that is open, and sees that it is on the disk.
-pub fn write_synced(fd: i32, text: &[u8]) -> bool {
-    let written = io::write_all(fd, text);
-    if !written {
-        return false;
-    }
-    if libc::fsync(fd) != 0 {
-        return false;
-    }
-    true
+pub fn write_synced(file: &mut File, text: &[u8]) -> io::Result<()> {
+    file.write_all(text)?;
+    file.sync_all()
 }
 
 // The name with an ending.
@@ -203,31 +222,26 @@ pub fn put_ending(path: &mut [u8], name: &[u8], ending: &[u8]) -> usize {
 // How many bytes of the name stand before its last part.
 fn folder_length(name: &[u8]) -> usize {
     let mut n = 0;
-    let mut i = 0;
-    while i < name.len() {
-        if name[i] == 47 {
+    for i in 0..name.len() {
+        if name[i] == b'/' {
             n = i + 1;
         }
-        i += 1;
     }
     n
 }
 
 // Sees that the folder's entries are on the disk, where the system can.
-pub fn sync_folder(name: &[u8]) {
+pub fn sync_folder(rt: &HostRuntime, name: &[u8]) {
     let n = folder_length(name);
     if n == 0 {
-        sync(b".");
+        sync(rt, b".");
         return;
     }
-    sync(part(name, n));
+    sync(rt, part(name, n));
 }
 
-fn sync(folder: &[u8]) {
-    let fd = os::open_read(folder);
-    if fd < 0 {
-        return;
+fn sync(rt: &HostRuntime, folder: &[u8]) {
+    if let Ok(opened) = open_read(rt, folder) {
+        let _ = opened.sync_all();
     }
-    libc::fsync(fd);
-    libc::close(fd);
 }

@@ -1,7 +1,9 @@
 // Commands carried out as the program does, one after the other on a table that begins empty, and printed with what each says.
-use clerk_files::{Read, part};
+#![tactic(auto)]
+
+use clerk_files::part;
 use command_sheets::Manner;
-use libc::STDOUT_FILENO;
+use std::io;
 
 // A line with this before it asks for numbers only.
 const PLAIN: usize = 8;
@@ -20,21 +22,26 @@ fn command_of(line: &[u8], plain: bool) -> &[u8] {
     line
 }
 
-fn print_opening(plain: bool) {
+fn print_opening(rt: &impl Print, plain: bool) -> io::Result<()> {
     if plain {
-        io::write_all(STDOUT_FILENO, b"$ vaultsorrel --plain day.frames ");
-        return;
+        return print!(rt; "$ vaultsorrel --plain day.frames ");
     }
-    io::write_all(STDOUT_FILENO, b"$ vaultsorrel day.frames ");
+    print!(rt; "$ vaultsorrel day.frames ")
 }
 
 // One command, and what it says.
-fn replay_line(t: &mut [u32], s: &mut [u32], line: &[u8], makes: bool) {
+fn replay_line(
+    rt: &impl Print,
+    t: &mut [u32],
+    s: &mut [u32],
+    line: &[u8],
+    makes: bool,
+) -> io::Result<()> {
     let plain = is_plain(line);
     let command = command_of(line, plain);
-    print_opening(plain);
-    io::write_all(STDOUT_FILENO, command);
-    io::write_all(STDOUT_FILENO, b"\n");
+    print_opening(rt, plain)?;
+    rt.write_all(command)?;
+    println!(rt;)?;
     let manner = Manner {
         plain,
         single: true,
@@ -42,32 +49,35 @@ fn replay_line(t: &mut [u32], s: &mut [u32], line: &[u8], makes: bool) {
     };
     let mut page = clerk_files::page();
     let ran = batches::run(t, s, manner, b"day.frames", command, &mut page);
-    io::write_all(STDOUT_FILENO, part(&page, ran.length));
+    rt.write_all(part(&page, ran.length))
 }
 
-fn replay_lines(t: &mut [u32], s: &mut [u32], commands: &[u8]) {
+fn replay_lines(rt: &impl Print, t: &mut [u32], s: &mut [u32], commands: &[u8]) -> io::Result<()> {
     let mut makes = true;
     let mut at = 0;
     while at < commands.len() {
         let end = text_lines::line_end(commands, at);
-        replay_line(t, s, &commands[at..end], makes);
+        replay_line(rt, t, s, &commands[at..end], makes)?;
         at = text_lines::line_next(commands, at, end);
         makes = false;
     }
+    Ok(())
 }
 
-fn replay_commands(commands: &[u8]) {
+fn replay_commands(rt: &impl Print, commands: &[u8]) -> io::Result<()> {
     let mut t = [0u32; layout::SIZE];
     let mut s = [0u32; layout::VERTEX_LIMIT];
-    replay_lines(&mut t, &mut s, commands);
+    replay_lines(rt, &mut t, &mut s, commands)
 }
 
 // The commands of a file, a line each; the first is carried out for a file that is made.
-pub fn replay(path: &[u8]) {
+pub fn replay(rt: &HostRuntime, path: &[u8]) -> io::Result<()> {
     let mut commands = [0u8; 65536];
-    let got = clerk_files::read_file(path, &mut commands);
-    match got {
-        Read::Failed => os::fail(path),
-        Read::Bytes(n) => replay_commands(part(&commands, n)),
+    match clerk_files::read_file(rt, path, &mut commands) {
+        Err(error) => {
+            clerk_files::fail(rt, path, &error);
+            Ok(())
+        }
+        Ok(n) => replay_commands(rt, part(&commands, n)),
     }
 }

@@ -1,4 +1,8 @@
 // The sheet of every command, in words and in numbers only, and every message of a command that is refused or misused.
-fn main() {
-    clerk_replay::replay(b"commands");
+#![tactic(auto)]
+
+use std::io;
+
+fn main(rt: HostRuntime) -> io::Result<()> {
+    clerk_replay::replay(&rt, b"commands")
 }

@@ -1,4 +1,6 @@
 // A closed walk of the table, to be named where the sort is refused.
+#![tactic(auto)]
+
 ghost use Rattle.std.specs.Prelude.{◌≡◌};
 ghost use Rattle.layout.specs.Layout.{limit, vertex_count, read};
 ghost use Rattle.layout.specs.Inner.{Formed};

@@ -1,4 +1,6 @@
 // What is reached from each record, as a matrix; and the listing of a matrix's pairs by number.
+#![tactic(auto)]
+
 ghost use Rattle.std.specs.Prelude.{◌≡◌, ◌*◌, ◌<◌, ◌≤◌, length};
 ghost use Rattle.lists.specs.Tests.{count};
 ghost use Rattle.lists.specs.Lists.{over};

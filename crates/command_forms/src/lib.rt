@@ -1,4 +1,6 @@
 // What each command asks for, and how many numbers it takes.
+#![tactic(auto)]
+
 ghost use Rattle.std.specs.Prelude.{◌≡◌, [], ◌∷◌, ◌≤◌, ◌<◌};
 ghost use Rattle.commands.specs.Commands.{command_count, form_at, takes};
 

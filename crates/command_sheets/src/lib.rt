@@ -1,4 +1,6 @@
 // A command carried out, with what it says on a page.
+#![tactic(auto)]
+
 ghost use Rattle.std.specs.Prelude.{◌≡◌, [], drop, eqb};
 ghost use Rattle.lists.specs.Tests.{◌and◌};
 ghost use Rattle.desk.specs.Desk.{desk_of};

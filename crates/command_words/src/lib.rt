@@ -1,4 +1,6 @@
 // The words behind the name of a line, and the numbers among them.
+#![tactic(auto)]
+
 ghost use Rattle.std.specs.Prelude.{◌≡◌, ◌+◌, ◌≤◌, length, drop};
 ghost use Rattle.commands.specs.Words.{words_behind};
 ghost use Rattle.commands.specs.Commands.{most_numbers};

@@ -1,4 +1,6 @@
 // What a clerk can ask for, in the laboratory's words: a tube is a vertex, a transfer a hyperedge.
+#![tactic(auto)]
+
 ghost use Rattle.std.specs.Prelude.{◌≡◌, ◌<◌, length};
 ghost use Rattle.lists.specs.Lists.{same_list};
 ghost use Rattle.edits.specs.Results.{first_passing};

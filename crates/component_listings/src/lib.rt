@@ -1,4 +1,6 @@
 // Whether a table is connected, its components and its closure.
+#![tactic(auto)]
+
 ghost use Rattle.std.specs.Prelude.{◌≡◌, [], ◌≤◌};
 ghost use Rattle.lists.specs.Tests.{bit, every};
 ghost use Rattle.layout.specs.Layout.{limit, vertex_limit, read};

@@ -1,4 +1,6 @@
 // The classes of a relation among records: each record's class, and the listing of the classes by number.
+#![tactic(auto)]
+
 ghost use Rattle.std.specs.Prelude.{◌≡◌, cond, map, suc, ◌<◌, ◌≤◌, eqb, length};
 ghost use Rattle.lists.specs.Tests.{count, chosen};
 ghost use Rattle.lists.specs.Lists.{over, counted, up_to};

@@ -1,4 +1,6 @@
 // Which vertices stand together in a list, as a matrix of marks.
+#![tactic(auto)]
+
 ghost use Rattle.std.specs.Prelude.{◌≡◌, map, ◌+◌, ◌<◌, length, take};
 ghost use Rattle.layout.specs.Content.{live_vertices};
 ghost use Rattle.layout.specs.Layout.{limit, vertex_limit, vertex_count, hyperedge_count, members_at, read};

@@ -1,4 +1,6 @@
 // The mates of a vertex, what is reached past it, and the cut vertices.
+#![tactic(auto)]
+
 ghost use Rattle.std.specs.Prelude.{◌≡◌, ◌<◌, ◌≤◌, length};
 ghost use Rattle.lists.specs.Tests.{every};
 ghost use Rattle.layout.specs.Layout.{limit, vertex_limit, vertex_count, read};

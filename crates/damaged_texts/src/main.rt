@@ -1,9 +1,14 @@
 // Damages the four-line example in every way that one byte can: each of its 114 bytes changed to each of 256, each byte taken out, each of
 // 256 bytes put in at each place. `data/text` is the example, `data/lines` a byte for each case: the faulty line, or 0 where the text is
 // still accepted. A line for each kind of damage: how many were compared, and how many gave another line.
+#![tactic(auto)]
+
 ghost use Rattle.std.specs.Prelude.{◌≡◌, ◌+◌, ◌<◌, ◌≤◌, length};
 
-use libc::STDOUT_FILENO;
+use std::fs::File;
+use std::io;
+use std::io::{ErrorKind, Read};
+use std::rt::Files;
 
 const TEXT: usize = 114;
 
@@ -63,12 +68,8 @@ fn differ_at(text: &mut [u8], at: usize, lines: &[u8], from: usize) -> usize
     sum
 }
 
-fn say(what: &[u8], compared: usize, differing: usize) {
-    io::write_all(STDOUT_FILENO, what);
-    io::print_decimal(STDOUT_FILENO, compared as u64);
-    io::write_all(STDOUT_FILENO, b" compared, ");
-    io::print_decimal(STDOUT_FILENO, differing as u64);
-    io::write_all(STDOUT_FILENO, b" differing\n");
+fn say(rt: &impl Print, what: &str, compared: usize, differing: usize) -> io::Result<()> {
+    println!(rt; "{what}{compared} compared, {differing} differing")
 }
 
 fn change(text: &mut [u8; 114], lines: &[u8; 58738]) -> usize {
@@ -130,32 +131,34 @@ fn put_each(more: &mut [u8; 115], lines: &[u8; 58738]) -> usize {
 }
 
 // Fills the slice from the file, or tells that it could not.
-fn filled(name: &[u8], into: &mut [u8]) -> bool {
-    let fd = os::open_read(name);
-    if fd < 0 {
-        os::fail(name);
-        return false;
+fn filled(rt: &(impl Files + Print + Eprint), name: &str, into: &mut [u8]) -> io::Result<bool> {
+    let mut file = match File::open(rt, name) {
+        Ok(file) => file,
+        Err(error) => {
+            eprintln!(rt; "{name}: {error}")?;
+            return Ok(false);
+        }
+    };
+    match file.read_exact(into) {
+        Ok(()) => Ok(true),
+        Err(error) if error.kind() == ErrorKind::UnexpectedEof => {
+            println!(rt; "{name}: too short")?;
+            Ok(false)
+        }
+        Err(error) => Err(error),
     }
-    let n = io::read_full(fd, into);
-    libc::close(fd);
-    if n == into.len() {
-        return true;
-    }
-    io::write_all(STDOUT_FILENO, name);
-    io::write_all(STDOUT_FILENO, b": too short\n");
-    false
 }
 
-fn main() {
+fn main(rt: HostRuntime) -> io::Result<()> {
     let mut text = [0u8; TEXT];
     let mut lines = [0u8; LINES];
-    if !filled(b"text", &mut text) {
-        return;
+    if !filled(&rt, "text", &mut text)? {
+        return Ok(());
     }
-    if !filled(b"lines", &mut lines) {
-        return;
+    if !filled(&rt, "lines", &mut lines)? {
+        return Ok(());
     }
-    say(b"changed: ", TAKEN_AT, change(&mut text, &lines));
-    say(b"taken out: ", TEXT, take_out(&text, &lines));
-    say(b"put in: ", LINES - PUT_AT, put_in(&text, &lines));
+    say(&rt, "changed: ", TAKEN_AT, change(&mut text, &lines))?;
+    say(&rt, "taken out: ", TEXT, take_out(&text, &lines))?;
+    say(&rt, "put in: ", LINES - PUT_AT, put_in(&text, &lines))
 }

@@ -1,4 +1,6 @@
 // Degrees: the places at which a vertex is stepped to or from.
+#![tactic(auto)]
+
 ghost use Rattle.std.specs.Prelude.{◌≡◌, []};
 ghost use Rattle.layout.specs.Layout.{limit, read};
 ghost use Rattle.layout.specs.Inner.{Formed};

@@ -49,5 +49,5 @@ nine-or-smallest ws lent formed = record {
   refused = λ c. call-is ws lent formed ∙ (closed-answers (f ws lent formed) lent c).0;
   only_then = λ e. nine-closed (f ws lent formed) lent (ap (λ (r : Result). r.number) (sym (call-is ws lent formed)) ∙ e);
   otherwise = λ none room. let s = smallest ws lent formed none in (s.0, s.1, order-fits ws lent formed s.0 s.1 room);
-  no_room_lem = λ none short. let s = smallest ws lent formed none in order-short ws lent formed s.0 s.1 short;
+  no_room = λ none short. let s = smallest ws lent formed none in order-short ws lent formed s.0 s.1 short;
 }

@@ -14,7 +14,7 @@ write_call ws lent = on_formed ws lent (write_result lent)
 abbrev pub text_in : Result → List ℕ
 text_in r = take r.detail r.lent
 
--- what the writer's call on the words ws wrote, with its result_of r, the reader reads back to the same words, whatever stood in its table
+-- what the writer's call on the words ws wrote, with its result r, the reader reads back to the same words, whatever stood in its table
 -- before; and a slice as long as the longest text is always long enough to write to
 pub record ReadsBack (ws lent : List ℕ) (r : Result) : Type 0 where
   pub reads : r.number ≡ 0 → (before : List ℕ) → length before ≡ length ws → read_result (text_in r) before ≡ result_of (Done 0) ws

@@ -1,4 +1,6 @@
 // What a clerk may hold the calls to: theorems over their results. The one function is in no program: its contract says what a lent slice meets.
+#![tactic(auto)]
+
 ghost use Rattle.std.specs.Prelude.{◌≡◌, true};
 ghost use Rattle.lists.specs.Lists.{all};
 ghost use Rattle.layout.specs.Layout.{limit};

@@ -1,6 +1,6 @@
 -- What a call of the search does to the marks m, the listing in the first t places of o, and t. Assumes nothing.
 use Rattle.std.specs.Prelude.{◌≡◌, List, ℕ, ◌+◌, ◌-◌, ◌≤◌, ◌<◌, length, take}
-use Rattle.depth.specs.Dfs.{Progress, unmarked, tried}
+use Rattle.depth.specs.Dfs.{Progress, unmarked}
 use Rattle.lists.specs.Tests.{count}
 
 -- marks and listing as the arrays hold them

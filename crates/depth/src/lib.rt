@@ -1,4 +1,6 @@
 // Depth first over a matrix of marks: the order in which numbers are finished, and the preorder from a start.
+#![tactic(auto)]
+
 ghost use Rattle.std.specs.Prelude.{◌≡◌, not, ◌&&◌, ◌+◌, ◌-◌, ◌<◌, ◌≤◌, eqb, length, get_or, take};
 ghost use Rattle.graph.specs.Reach.{matrix};
 ghost use Rattle.depth.specs.Dfs.{visits, tried};

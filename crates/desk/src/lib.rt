@@ -1,4 +1,5 @@
 // The release desk: the states of a vertex. What the desk is stands in the specs, and its laws in the proofs.
+#![tactic(auto)]
 
 pub const WAITING: u32 = 0;
 

@@ -1,4 +1,6 @@
 // A table cleared or read from a text through the release desk: it is written anew, and every record waits.
+#![tactic(auto)]
+
 ghost use Rattle.std.specs.Prelude.{◌≡◌};
 ghost use Rattle.desk.specs.Desk.{desk_of, outcome, desk_clear, desk_read};
 

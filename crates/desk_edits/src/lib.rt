@@ -1,4 +1,6 @@
 // Edits through the release desk that leave the vertices' records where they are: so do the states. Answer and table are the lower edit's.
+#![tactic(auto)]
+
 ghost use Rattle.std.specs.Prelude.{◌≡◌};
 ghost use Rattle.removals.specs.Removals.{hyperedge};
 ghost use Rattle.calls.specs.Calls.{add_vertex, add_hyperedge, update, remove};

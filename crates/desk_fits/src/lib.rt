@@ -1,4 +1,6 @@
 // Whether a table and states are a desk: the test that stands before all else at the desk.
+#![tactic(auto)]
+
 ghost use Rattle.std.specs.Prelude.{◌≡◌};
 ghost use Rattle.desk.specs.Desk.{desk_of, desk_fits};
 

@@ -1,5 +1,5 @@
 -- Laws of lists with no repeat, and of the first number below n that passes a test. Assumes nothing.
-use mathlib.Core.Path.{◌≡◌, refl, sym, ap, ◌∙◌}
+use mathlib.Core.Path.{◌≡◌, refl, sym, ap, ◌∙◌, subst}
 use mathlib.Core.Bool.{Bool, true, false, not}
 use mathlib.Core.Logic.{⊎_elim}
 use mathlib.Core.List.{List, [], ◌∷◌}
@@ -25,7 +25,9 @@ pub distinct_of : (l : List ℕ) → ((k : ℕ) → k < length l → memb (get_o
 distinct_of [] h = tt
 distinct_of (x ∷ l) h = (
   on (memb x l)
-      (λ e. let r = memb-at x l e in clash (rw r.2 (memb-self x (take r.0 l))) (h (suc r.0) (suc-le-suc r.1)))
+      (λ e.
+      let r = memb-at x l e in
+      clash (subst (λ (y : ℕ). memb y (x ∷ take r.0 l) ≡ true) (sym r.2) (memb-self x (take r.0 l))) (h (suc r.0) (suc-le-suc r.1)))
       (λ e. e),
   distinct_of l (λ k b. or-false-right (eqb (get_or l k 0) x) _ (h (suc k) (suc-le-suc b))),
 )

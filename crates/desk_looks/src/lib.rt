@@ -1,4 +1,6 @@
 // What the desk shows of the states: the state of a vertex, and the vertices in a state.
+#![tactic(auto)]
+
 ghost use Rattle.std.specs.Prelude.{◌≡◌, [], ◌+◌, ◌<◌, ◌≤◌, length};
 ghost use Rattle.lists.specs.Lists.{word_at};
 ghost use Rattle.layout.specs.Layout.{limit, vertex_limit, read};

@@ -1,4 +1,6 @@
 // Several numbers at the desk in one call, all or none: a tray of one kind, and releases.
+#![tactic(auto)]
+
 ghost use Rattle.std.specs.Prelude.{◌≡◌, map, length};
 ghost use Rattle.layout.specs.Layout.{limit, vertex_limit, read};
 ghost use Rattle.layout.specs.Inner.{Formed};

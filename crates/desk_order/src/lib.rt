@@ -1,4 +1,6 @@
 // The planner's order: whether it lists every live vertex once, and every step goes forward.
+#![tactic(auto)]
+
 ghost use Rattle.std.specs.Prelude.{◌≡◌, ◌||◌, [], ◌<◌, eqb, length};
 ghost use Rattle.lists.specs.Tests.{◌and◌};
 ghost use Rattle.lists.specs.Lists.{any, up_to};

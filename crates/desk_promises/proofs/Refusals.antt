@@ -68,7 +68,7 @@ module _ (d : Desk) {gs : List Ground} {r : Result} (j : Judged gs d.table r) wh
     done = λ e. absurd (let s : some g ≡ none = sym (first-is gs g true h) ∙ e in let z : ◌≡◌ {A = ℕ} 0 1 = cc in omega arith);
   }
 
-  -- it does not, and the desk is left as f says of the result_of
+  -- it does not, and the desk is left as f says of the result
   passed : (g : Ground) → g.applies ≡ false → (f : Result → Desk) → ((k : Ground) → first gs ≡ some k → f (result_of k.answer d.table) ≡ d)
       → (o : Outcome) → o ≡ answering r (f r) → DeskJudged (g ∷ gs) d o
   passed g h f kept o q = record {

@@ -1,4 +1,6 @@
 // The vertices that a release would release now.
+#![tactic(auto)]
+
 ghost use Rattle.std.specs.Prelude.{◌≡◌, not, ◌||◌, ◌+◌, ◌<◌, ◌≤◌, eqb, length};
 ghost use Rattle.lists.specs.Tests.{◌and◌};
 ghost use Rattle.layout.specs.Layout.{limit, vertex_limit, read};

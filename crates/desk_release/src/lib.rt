@@ -1,4 +1,6 @@
 // Release of a vertex.
+#![tactic(auto)]
+
 ghost use Rattle.std.specs.Prelude.{◌≡◌, not, ◌<◌, ◌≤◌, eqb, length};
 ghost use Rattle.lists.specs.Tests.{◌and◌};
 ghost use Rattle.lists.specs.Lists.{up_to};

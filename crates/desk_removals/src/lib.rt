@@ -1,4 +1,6 @@
 // Edits through the release desk that take a vertex out: the answer and the table are the lower edit's, and the states behind its record move down.
+#![tactic(auto)]
+
 ghost use Rattle.std.specs.Prelude.{◌≡◌};
 ghost use Rattle.removals.specs.Removals.{vertex};
 ghost use Rattle.calls.specs.Calls.{merge, remove};

@@ -1,4 +1,6 @@
 // Review of a vertex.
+#![tactic(auto)]
+
 ghost use Rattle.std.specs.Prelude.{◌≡◌, ◌<◌, length, set};
 ghost use Rattle.lists.specs.Lists.{word_at};
 ghost use Rattle.layout.specs.Layout.{limit, vertex_limit, read};

@@ -1,4 +1,6 @@
 // The sheets of records, of states and of the planner's order, written on a page.
+#![tactic(auto)]
+
 ghost use Rattle.std.specs.Prelude.{◌≡◌, true, ◌<◌, length};
 ghost use Rattle.layout.specs.Layout.{limit, vertex_limit, vertex_count, hyperedge_count, vertex_at, hyperedge_at, read};
 ghost use Rattle.layout.specs.Inner.{Formed};

@@ -1,4 +1,6 @@
 // The lent states: whether they fit, how they follow their vertices when some are removed, and how they begin anew.
+#![tactic(auto)]
+
 ghost use Rattle.std.specs.Prelude.{◌≡◌, cond, ◌<◌, ◌≤◌, eqb, length, take};
 ghost use Rattle.layout.specs.Layout.{limit, vertex_limit, size, vertex_count};
 ghost use Rattle.layout.specs.Inner.{vertex_column};

@@ -1,4 +1,6 @@
 // Withdrawing a tray through the desk: a thin function over the lent list of records, above a covered one.
+#![tactic(auto)]
+
 ghost use Rattle.std.specs.Prelude.{◌≡◌};
 ghost use Rattle.calls.specs.Calls.{withdraw};
 ghost use Rattle.withdraw_tray.specs.Carried.{carried_out};

@@ -1,4 +1,6 @@
 // The least costs, and the best walk read off them.
+#![tactic(auto)]
+
 ghost use Rattle.std.specs.Prelude.{◌≡◌, ℕ, ◌<◌, ◌≤◌, length, get_or};
 ghost use Rattle.distance.specs.Labels.{Shortest};
 ghost use Rattle.distance.specs.Cost.{step_in, key_in, step_back, cost_back, key_back, Listed, Within};

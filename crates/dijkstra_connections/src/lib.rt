@@ -1,4 +1,6 @@
 // The best path between two vertices, with its cost.
+#![tactic(auto)]
+
 ghost use Rattle.std.specs.Prelude.{◌≡◌, true, [], ◌∷◌, ◌++◌, ◌+◌, ◌*◌, ◌<◌, ◌≤◌, length, take};
 ghost use Rattle.layout.specs.Content.{live_vertices, position};
 ghost use Rattle.layout.specs.Layout.{limit, read, vertex_count};

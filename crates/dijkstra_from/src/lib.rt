@@ -1,4 +1,6 @@
 // The costs from one vertex.
+#![tactic(auto)]
+
 ghost use Rattle.std.specs.Prelude.{◌≡◌, [], ◌∷◌, ◌+◌, ◌*◌, ◌/◌, ◌<◌, ◌≤◌, eqb, length};
 ghost use Rattle.lists.specs.Tests.{bit, count};
 ghost use Rattle.lists.specs.Lists.{over};

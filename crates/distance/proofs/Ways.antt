@@ -28,7 +28,7 @@ module _ (R : ℕ → ℕ → Type 0) (W : ℕ → ℕ → ℕ) where
   list-way {s} {x} {k} {j} [] y p w =
       subst (λ (i : ℕ). Way R W s y i (j + 0)) (omega arith) (subst (λ (i : ℕ). Way R W s y k i) (omega arith) (subst (λ (i : ℕ). Way R W s i k j) w p))
   list-way {s} {x} {k} {j} (v ∷ l) y p w =
-      let r = list-way l y (step p w.0) w.1 in
+      let r = list-way {x = v} l y (step p w.0) w.1 in
       let a : k + W x v + total W v l ≡ k + (W x v + total W v l) = omega arith in
       let b : suc j + length l ≡ j + suc (length l) = omega arith in
       subst (λ (i : ℕ). Way R W s y i (j + suc (length l))) a (subst (λ (i : ℕ). Way R W s y (k + W x v + total W v l) i) b r)

@@ -1,4 +1,6 @@
 // The nearest open number, by blocks with a least key.
+#![tactic(auto)]
+
 pub mod blocks;
 
 // Whether there is a walk; its steps, and the total of their costs.

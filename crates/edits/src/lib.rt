@@ -1,4 +1,6 @@
 // What the edits share: a judgement of a member list, stores in a record, and words moved down.
+#![tactic(auto)]
+
 use layout::Answer;
 
 pub mod records;

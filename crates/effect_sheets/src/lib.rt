@@ -1,4 +1,6 @@
 // What a removal or a merge did to the transfers, in words: those that are gone, and those whose list changed.
+#![tactic(auto)]
+
 ghost use Rattle.std.specs.Prelude.{◌≡◌, cond, [], ◌<◌, eqb};
 ghost use Rattle.layout.specs.Layout.{limit, hyperedge_count, hyperedge_at, read};
 ghost use Rattle.layout.specs.Inner.{Formed};

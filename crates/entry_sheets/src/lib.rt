@@ -1,4 +1,6 @@
 // The sheets of a tube registered, a transfer recorded and a list replaced. Plain has the number that was given or found, and of a list nothing.
+#![tactic(auto)]
+
 ghost use Rattle.std.specs.Prelude.{◌≡◌, cond, []};
 ghost use Rattle.layout.specs.Answers.{detail};
 ghost use Rattle.wording.specs.Pages.{page, write};

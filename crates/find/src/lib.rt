@@ -1,4 +1,6 @@
 // Vertices and hyperedges searched by number.
+#![tactic(auto)]
+
 ghost use Rattle.std.specs.Prelude.{◌≡◌, ◌+◌, ◌*◌, ◌<◌, ◌≤◌, length};
 ghost use Rattle.lists.specs.Lists.{Ascending};
 ghost use Rattle.layout.specs.Content.{live_vertices, live_hyperedges, position};

@@ -1,4 +1,6 @@
 // The first places of the members of each list.
+#![tactic(auto)]
+
 ghost use Rattle.std.specs.Prelude.{◌≡◌, ◌<◌, ◌+◌, length, set};
 ghost use Rattle.lists.specs.Lists.{memb};
 ghost use Rattle.layout.specs.Layout.{limit, vertex_limit, hyperedge_count};

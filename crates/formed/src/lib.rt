@@ -1,4 +1,6 @@
 // The shape of a table: its counts, its unused words, and numbers that climb; for a slice of any length and content.
+#![tactic(auto)]
+
 ghost use Rattle.std.specs.Prelude.{◌≡◌, ◌+◌, ◌*◌, ◌<◌, ◌≤◌, length};
 ghost use Rattle.lists.specs.Tests.{every};
 ghost use Rattle.lists.specs.Lists.{all, zeros, is_below};

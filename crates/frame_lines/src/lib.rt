@@ -1,4 +1,6 @@
 // Lines: their sums, their ends, the head and what opens a record.
+#![tactic(auto)]
+
 ghost use Rattle.std.specs.Prelude.{◌≡◌, ◌++◌, ◌+◌, ◌≤◌, length};
 ghost use Rattle.frames.specs.Frames.{byte_values, number_bytes, short_bytes, head_frame, byte_sum, balance, byte_digits, line_feed, line, head_length};
 ghost use Rattle.frames.specs.Put.{number_digits, Put};

@@ -1,4 +1,6 @@
 // Frame text: bytes and numbers written as capital hexadecimal.
+#![tactic(auto)]
+
 ghost use Rattle.std.specs.Prelude.{◌≡◌, ◌+◌, ◌<◌, ◌≤◌, length};
 ghost use Rattle.frames.specs.Frames.{byte_values, byte_of, short_bytes, digit, byte_digits, digits};
 ghost use Rattle.frames.specs.Put.{number_digits, Put};

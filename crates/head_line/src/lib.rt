@@ -1,4 +1,6 @@
 // The line of the head.
+#![tactic(auto)]
+
 ghost use Rattle.std.specs.Prelude.{◌≡◌, length};
 ghost use Rattle.layout.specs.Layout.{limit, size};
 ghost use Rattle.frames.specs.Frames.{head_length};

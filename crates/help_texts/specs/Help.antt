@@ -12,7 +12,7 @@ unfoldable pub call_lines : List ℕ
 call_lines = text "vaultsorrel FILE COMMAND ..      one command\nvaultsorrel FILE                 commands from standard input, a line each: all or none\nvaultsorrel --plain ..           numbers only\n\n"
 
 unfoldable pub file_lines : List ℕ
-file_lines = text "\nFILE is a frame text; - is standard input where nothing is written back. FILE.desk has the states.\n_exit status: 0 done, 1 refused, 2 misused, 3 a file could not be read or written.\n"
+file_lines = text "\nFILE is a frame text; - is standard input where nothing is written back. FILE.desk has the states.\nExit status: 0 done, 1 refused, 2 misused, 3 a file could not be read or written.\n"
 
 -- all of the help
 unfoldable pub help_text : List ℕ

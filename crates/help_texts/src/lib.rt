@@ -1,4 +1,6 @@
 // What the program says of itself and of its commands, written on a page.
+#![tactic(auto)]
+
 ghost use Rattle.std.specs.Prelude.{◌≡◌};
 ghost use Rattle.wording.specs.Pages.{page, write};
 ghost use Rattle.text_lines.specs.Lines.{line_at};

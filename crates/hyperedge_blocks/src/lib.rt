@@ -1,4 +1,6 @@
 // What a listing has of each hyperedge: its number for each place of a step, or its members.
+#![tactic(auto)]
+
 ghost use Rattle.std.specs.Prelude.{◌≡◌, ◌∷◌, ◌+◌, ◌<◌, ◌≤◌, length, replicate};
 ghost use Rattle.lists.specs.Lists.{over};
 ghost use Rattle.layout.specs.Layout.{limit, hyperedge_count, hyperedge_at, members_at, read};

@@ -1,4 +1,6 @@
 // The lines of hyperedges.
+#![tactic(auto)]
+
 ghost use Rattle.std.specs.Prelude.{◌≡◌, ◌+◌, ◌*◌, ◌<◌, ◌≤◌, length};
 ghost use Rattle.lists.specs.Lists.{tab, flat};
 ghost use Rattle.layout.specs.Layout.{limit, hyperedge_count, hyperedge_at, members_at};

@@ -1,4 +1,6 @@
 // The lines of hyperedges.
+#![tactic(auto)]
+
 ghost use Rattle.std.specs.Prelude.{◌≡◌, false, ◌+◌, ◌*◌, ◌<◌, ◌≤◌, length};
 ghost use Rattle.lists.specs.Lists.{all, tab, pad};
 ghost use Rattle.layout.specs.Content.{is_live};

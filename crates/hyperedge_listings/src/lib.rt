@@ -1,4 +1,6 @@
 // Lists of hyperedges: by pair, by weight, by vertex.
+#![tactic(auto)]
+
 ghost use Rattle.std.specs.Prelude.{◌≡◌};
 ghost use Rattle.layout.specs.Layout.{limit, read};
 ghost use Rattle.layout.specs.Inner.{Formed};

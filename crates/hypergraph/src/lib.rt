@@ -1,4 +1,6 @@
 // The whole table: cleared, and judged empty.
+#![tactic(auto)]
+
 ghost use Rattle.std.specs.Prelude.{◌≡◌, []};
 ghost use Rattle.layout.specs.Answers.{on_formed, result_of};
 ghost use Rattle.edits.specs.Results.{clear_result, empty_result};

@@ -1,4 +1,6 @@
 // Pairs of lists of which one lies within the other.
+#![tactic(auto)]
+
 ghost use Rattle.std.specs.Prelude.{◌≡◌, ◌<◌, ◌≤◌, length};
 ghost use Rattle.lists.specs.Lists.{over};
 ghost use Rattle.lists.specs.Inner.{Wrote};

@@ -144,7 +144,7 @@ carry-out-agrees κs args a b x y p q = agree _ p q
 pub find-side-by-side-agrees : Agrees 1 find-side-by-side.ps find-side-by-side.r find-side-by-side-reads.Post (λ _ _. [])
 find-side-by-side-agrees κs args a b x y p q = (p ∙ sym q, refl)
 
--- a refusal changes no lent word, and what is fine leaves any result_of: which of the two was given, and by what answer, shows in the results
+-- a refusal changes no lent word, and what is fine leaves any result: which of the two was given, and by what answer, shows in the results
 or-else-one : (i j : Judgement) → ((r : Result) → or_else i [] r ≡ or_else j [] r) → i ≡ j
 or-else-one (Refused a) (Refused b) h = ap Refused (agree (result_of b []) {y = []} (h (result_of Full [])) refl).0
 or-else-one (Refused a) Fine h = absurd (omega (arith, ap (λ (r : Result). length r.lent) (h (result_of Full (0 ∷ [])))))

@@ -1,1 +1,2 @@
 // That the promises of the inner functions determine what they give: theorems alone, no code.
+#![tactic(auto)]

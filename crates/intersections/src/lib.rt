@@ -1,4 +1,6 @@
 // The vertices that every hyperedge of a list has as a member.
+#![tactic(auto)]
+
 ghost use Rattle.std.specs.Prelude.{◌≡◌, ◌<◌, eqb, length};
 ghost use Rattle.lists.specs.Tests.{◌and◌};
 ghost use Rattle.layout.specs.Content.{live_vertices, lists};

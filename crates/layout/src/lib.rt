@@ -1,4 +1,6 @@
 // The table's words: their layout, what is read from them, the two kinds of number, and what an entry point answers.
+#![tactic(auto)]
+
 ghost use Rattle.std.specs.Prelude.{◌≡◌, ◌<◌, ◌≤◌, length};
 ghost use Rattle.layout.specs.Layout.{limit, vertex_limit, hyperedge_limit, size, next_vertex_in, next_hyperedge_in, vertex_count, hyperedge_count, vertex_at, hyperedge_at, count_at, members_at};
 ghost use Rattle.layout.specs.Inner.{Formed};

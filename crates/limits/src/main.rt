@@ -1,21 +1,18 @@
 // Runs the edits at their limits. A line for each call: what was asked, then the answer's number and detail.
+#![tactic(auto)]
+
 use add_hyperedge::add_hyperedge;
 use add_vertex::add_vertex;
 use hypergraph::{clear, is_empty};
 use layout::{Answer, HyperedgeIndex, VertexIndex};
-use libc::STDOUT_FILENO;
 use remove_hyperedge::remove_hyperedge;
 use remove_vertex::remove_vertex;
+use std::io;
 use update_hyperedge_vertices::update_hyperedge_vertices as update;
 
-fn say(what: &[u8], a: Answer) {
+fn say(rt: &impl Print, what: &str, a: Answer) -> io::Result<()> {
     let r = layout::reply_of(a);
-    io::write_all(STDOUT_FILENO, what);
-    io::write_all(STDOUT_FILENO, b": ");
-    io::print_decimal(STDOUT_FILENO, r.number as u64);
-    io::write_all(STDOUT_FILENO, b" ");
-    io::print_decimal(STDOUT_FILENO, r.detail);
-    io::write_all(STDOUT_FILENO, b"\n");
+    println!(rt; "{what}: {} {}", r.number, r.detail)
 }
 
 // Adds vertices until 256 are live.
@@ -42,85 +39,95 @@ fn count_up(list: &mut [u32]) {
     let mut v: u32 = 0;
     for i in 0..list.len() {
         list[i] = v;
-        v = std::num::wrapping_add_u32(v, 1);
+        v = v.wrapping_add(1);
     }
 }
 
-fn vertices() {
+fn vertices(rt: &impl Print) -> io::Result<()> {
     let mut t = [0u32; layout::SIZE];
-    say(b"empty table, empty", is_empty(&t));
-    say(b"first vertex", add_vertex(&mut t, 7));
-    say(b"one vertex, empty", is_empty(&t));
+    say(rt, "empty table, empty", is_empty(&t))?;
+    say(rt, "first vertex", add_vertex(&mut t, 7))?;
+    say(rt, "one vertex, empty", is_empty(&t))?;
     add_vertices(&mut t);
-    say(b"vertex 257", add_vertex(&mut t, 7));
+    say(rt, "vertex 257", add_vertex(&mut t, 7))
 }
 
-fn lists() {
+fn lists(rt: &impl Print) -> io::Result<()> {
     let mut t = [0u32; layout::SIZE];
     let longer = [3u32; layout::MEMBER_LIMIT + 1];
     let unknown = [3u32, 256, 257];
     add_vertices(&mut t);
-    say(b"33 members", add_hyperedge(&mut t, &longer, 5));
+    say(rt, "33 members", add_hyperedge(&mut t, &longer, 5))?;
     say(
-        b"no members, weight 9",
+        rt,
+        "no members, weight 9",
         add_hyperedge(&mut t, &longer[..0], 9),
-    );
+    )?;
     say(
-        b"members 256 and 257 unknown",
+        rt,
+        "members 256 and 257 unknown",
         add_hyperedge(&mut t, &unknown, 5),
-    );
+    )
 }
 
-fn longest() {
+fn longest(rt: &impl Print) -> io::Result<()> {
     let mut t = [0u32; layout::SIZE];
     let mut list = [0u32; layout::MEMBER_LIMIT];
     count_up(&mut list);
     add_vertices(&mut t);
-    say(b"32 members", add_hyperedge(&mut t, &list, 5));
-    say(b"the same again", add_hyperedge(&mut t, &list, 5));
+    say(rt, "32 members", add_hyperedge(&mut t, &list, 5))?;
+    say(rt, "the same again", add_hyperedge(&mut t, &list, 5))
 }
 
 // Lists with equal neighbours.
-fn neighbours() {
+fn neighbours(rt: &impl Print) -> io::Result<()> {
     let mut t = [0u32; layout::SIZE];
     let all = [3u32; layout::MEMBER_LIMIT];
     let several = [4u32, 9, 9, 4, 4];
     let unknown = [4u32, 4, 256];
     add_vertices(&mut t);
-    say(b"list 4, 4", add_hyperedge(&mut t, &unknown[..2], 5));
+    say(rt, "list 4, 4", add_hyperedge(&mut t, &unknown[..2], 5))?;
     say(
-        b"list 4, 4, 256, the last unknown",
+        rt,
+        "list 4, 4, 256, the last unknown",
         add_hyperedge(&mut t, &unknown, 5),
-    );
-    say(b"list 4, 9, 9, 4, 4", add_hyperedge(&mut t, &several, 5));
-    say(b"32 times 3", add_hyperedge(&mut t, &all, 5));
-    say(b"3 alone", add_hyperedge(&mut t, &all[..1], 5));
+    )?;
+    say(rt, "list 4, 9, 9, 4, 4", add_hyperedge(&mut t, &several, 5))?;
+    say(rt, "32 times 3", add_hyperedge(&mut t, &all, 5))?;
+    say(rt, "3 alone", add_hyperedge(&mut t, &all[..1], 5))?;
     say(
-        b"update of it to 4, 4",
+        rt,
+        "update of it to 4, 4",
         update(&mut t, HyperedgeIndex(0), &unknown[..2]),
-    );
+    )
 }
 
-fn hyperedges() {
+fn hyperedges(rt: &impl Print) -> io::Result<()> {
     let mut t = [0u32; layout::SIZE];
     let last = [255u32, 191];
     let further = [1u32, 2];
     let twice = [4u32, 4];
     add_vertices(&mut t);
     add_hyperedges(&mut t);
-    say(b"hyperedge 193", add_hyperedge(&mut t, &further, 5));
+    say(rt, "hyperedge 193", add_hyperedge(&mut t, &further, 5))?;
     say(
-        b"one that is there, table full",
+        rt,
+        "one that is there, table full",
         add_hyperedge(&mut t, &last, 5),
-    );
+    )?;
     say(
-        b"the same list, another weight",
+        rt,
+        "the same list, another weight",
         add_hyperedge(&mut t, &last, 6),
-    );
-    say(b"list 4, 4, table full", add_hyperedge(&mut t, &twice, 5));
+    )?;
+    say(
+        rt,
+        "list 4, 4, table full",
+        add_hyperedge(&mut t, &twice, 5),
+    )
 }
 
-fn updates() {
+fn updates(rt: &impl Print) -> io::Result<()> {
     let mut t = [0u32; layout::SIZE];
     let first = [255u32, 0];
     let further = [1u32, 2];
@@ -128,92 +135,105 @@ fn updates() {
     add_vertices(&mut t);
     add_hyperedges(&mut t);
     say(
-        b"update, unknown, no members",
+        rt,
+        "update, unknown, no members",
         update(&mut t, HyperedgeIndex(192), &first[..0]),
-    );
+    )?;
     say(
-        b"update, unknown, to 4, 4",
+        rt,
+        "update, unknown, to 4, 4",
         update(&mut t, HyperedgeIndex(192), &twice),
-    );
+    )?;
     say(
-        b"update, unknown",
+        rt,
+        "update, unknown",
         update(&mut t, HyperedgeIndex(192), &further),
-    );
+    )?;
     say(
-        b"update to the list that it has",
+        rt,
+        "update to the list that it has",
         update(&mut t, HyperedgeIndex(0), &first),
-    );
-    say(b"update", update(&mut t, HyperedgeIndex(0), &further));
+    )?;
+    say(rt, "update", update(&mut t, HyperedgeIndex(0), &further))?;
     say(
-        b"update to the same again",
+        rt,
+        "update to the same again",
         update(&mut t, HyperedgeIndex(0), &further),
-    );
+    )
 }
 
-fn removals() {
+fn removals(rt: &impl Print) -> io::Result<()> {
     let mut t = [0u32; layout::SIZE];
     let between = [3u32, 4, 3];
     let alone = [3u32, 3];
     add_vertices(&mut t);
-    say(b"list 3, 4, 3", add_hyperedge(&mut t, &between, 5));
-    say(b"remove vertex 4", remove_vertex(&mut t, VertexIndex(4)));
+    say(rt, "list 3, 4, 3", add_hyperedge(&mut t, &between, 5))?;
+    say(rt, "remove vertex 4", remove_vertex(&mut t, VertexIndex(4)))?;
     say(
-        b"list 3, 3, which is there",
+        rt,
+        "list 3, 3, which is there",
         add_hyperedge(&mut t, &alone, 5),
-    );
-    say(b"remove vertex 3", remove_vertex(&mut t, VertexIndex(3)));
+    )?;
+    say(rt, "remove vertex 3", remove_vertex(&mut t, VertexIndex(3)))?;
     say(
-        b"remove vertex 3 again",
+        rt,
+        "remove vertex 3 again",
         remove_vertex(&mut t, VertexIndex(3)),
-    );
+    )?;
     say(
-        b"remove the list that held it alone",
+        rt,
+        "remove the list that held it alone",
         remove_hyperedge(&mut t, HyperedgeIndex(0)),
-    );
-    say(b"vertex after a removal", add_vertex(&mut t, 7));
+    )?;
+    say(rt, "vertex after a removal", add_vertex(&mut t, 7))
 }
 
 // The next number of each kind at its end.
-fn numbers_spent() {
+fn numbers_spent(rt: &impl Print) -> io::Result<()> {
     let mut t = [0u32; layout::SIZE];
     let only = [4294967294u32];
     let twice = [4294967294u32, 4294967294];
     t[0] = 4294967294;
     t[1] = 4294967294;
-    say(b"last vertex number", add_vertex(&mut t, 7));
-    say(b"vertex numbers spent", add_vertex(&mut t, 7));
-    say(b"last hyperedge number", add_hyperedge(&mut t, &only, 5));
-    say(b"hyperedge numbers spent", add_hyperedge(&mut t, &only, 6));
+    say(rt, "last vertex number", add_vertex(&mut t, 7))?;
+    say(rt, "vertex numbers spent", add_vertex(&mut t, 7))?;
+    say(rt, "last hyperedge number", add_hyperedge(&mut t, &only, 5))?;
     say(
-        b"numbers spent, equal neighbours",
+        rt,
+        "hyperedge numbers spent",
+        add_hyperedge(&mut t, &only, 6),
+    )?;
+    say(
+        rt,
+        "numbers spent, equal neighbours",
         add_hyperedge(&mut t, &twice, 6),
-    );
-    say(b"the one that is there", add_hyperedge(&mut t, &only, 5));
+    )?;
+    say(rt, "the one that is there", add_hyperedge(&mut t, &only, 5))
 }
 
-fn not_formed() {
+fn not_formed(rt: &impl Print) -> io::Result<()> {
     let mut t = [0u32; layout::SIZE];
     t[layout::SIZE - 1] = 1;
-    say(b"last word not 0, vertex", add_vertex(&mut t, 7));
-    say(b"last word not 0, clear", clear(&mut t));
-    say(b"cleared, vertex", add_vertex(&mut t, 7));
+    say(rt, "last word not 0, vertex", add_vertex(&mut t, 7))?;
+    say(rt, "last word not 0, clear", clear(&mut t))?;
+    say(rt, "cleared, vertex", add_vertex(&mut t, 7))
 }
 
-fn short() {
+fn short(rt: &impl Print) -> io::Result<()> {
     let mut t = [0u32; layout::SIZE - 1];
-    say(b"a word short, clear", clear(&mut t));
-    say(b"a word short, vertex", add_vertex(&mut t, 7));
+    say(rt, "a word short, clear", clear(&mut t))?;
+    say(rt, "a word short, vertex", add_vertex(&mut t, 7))
 }
 
-fn main() {
-    vertices();
-    lists();
-    longest();
-    neighbours();
-    hyperedges();
-    updates();
-    removals();
-    numbers_spent();
-    not_formed();
-    short();
+fn main(rt: HostRuntime) -> io::Result<()> {
+    vertices(&rt)?;
+    lists(&rt)?;
+    longest(&rt)?;
+    neighbours(&rt)?;
+    hyperedges(&rt)?;
+    updates(&rt)?;
+    removals(&rt)?;
+    numbers_spent(&rt)?;
+    not_formed(&rt)?;
+    short(&rt)
 }

@@ -1,4 +1,6 @@
 // Whether every member is live.
+#![tactic(auto)]
+
 ghost use Rattle.std.specs.Prelude.{◌≡◌, true, ◌<◌, ◌≤◌, length};
 ghost use Rattle.lists.specs.Tests.{every};
 ghost use Rattle.lists.specs.Lists.{Ascending};

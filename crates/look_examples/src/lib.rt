@@ -1,1 +1,2 @@
 // The sheets of looks, computed: theorems alone.
+#![tactic(auto)]

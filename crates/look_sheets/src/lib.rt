@@ -1,4 +1,6 @@
 // The sheets of looks, written on a page.
+#![tactic(auto)]
+
 ghost use Rattle.std.specs.Prelude.{◌≡◌, true, length};
 ghost use Rattle.layout.specs.Layout.{limit, vertex_limit, read};
 ghost use Rattle.layout.specs.Inner.{Formed};

@@ -1,4 +1,6 @@
 // What the lookups share: how a hyperedge relates a vertex to another, and what a listing has of a hyperedge.
+#![tactic(auto)]
+
 ghost use Rattle.std.specs.Prelude.{◌≡◌, ◌+◌, ◌<◌, length};
 ghost use Rattle.lists.specs.Lists.{memb};
 ghost use Rattle.layout.specs.Inner.{step_at};

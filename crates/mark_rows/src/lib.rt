@@ -1,4 +1,6 @@
 // Rows of marks: 256 rows of 256 marks, four words of 64 marks a row.
+#![tactic(auto)]
+
 ghost use Rattle.std.specs.Prelude.{◌≡◌, ◌+◌, ◌*◌, ◌<◌, ◌≤◌, length};
 ghost use Rattle.mark_rows.specs.Rows.{row_mark, word_count, row_count, mark_below, either, RowIs, WordEnds, Word, RowsOf};
 

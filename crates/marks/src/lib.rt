@@ -1,4 +1,6 @@
 // One mark for each vertex record, and the listing of the marked vertices.
+#![tactic(auto)]
+
 ghost use Rattle.std.specs.Prelude.{◌≡◌, map, ◌≤◌, length};
 ghost use Rattle.lists.specs.Tests.{count, chosen};
 ghost use Rattle.lists.specs.Lists.{over, word_at};

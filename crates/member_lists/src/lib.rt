@@ -1,4 +1,6 @@
 // A handed-in list of members: judged, and compared.
+#![tactic(auto)]
+
 ghost use Rattle.std.specs.Prelude.{◌≡◌};
 ghost use Rattle.lists.specs.Lists.{same_list};
 ghost use Rattle.layout.specs.Layout.{limit, read};

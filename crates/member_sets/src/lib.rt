@@ -1,4 +1,6 @@
 // The lists as sets, and which lie within which.
+#![tactic(auto)]
+
 ghost use Rattle.std.specs.Prelude.{◌≡◌, true, cond, ◌*◌, ◌<◌, ◌≤◌, length};
 ghost use Rattle.lists.specs.Tests.{◌and◌, every};
 ghost use Rattle.layout.specs.Layout.{limit, vertex_limit, hyperedge_count, hyperedge_at, read};

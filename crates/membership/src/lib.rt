@@ -1,4 +1,6 @@
 // The records that list each vertex.
+#![tactic(auto)]
+
 ghost use Rattle.std.specs.Prelude.{◌≡◌, ◌<◌, ◌+◌, length, get_or, set};
 ghost use Rattle.layout.specs.Layout.{limit, vertex_limit, hyperedge_count, members_at};
 ghost use Rattle.layout.specs.Inner.{Formed};

@@ -1,4 +1,6 @@
 // Merging one vertex into another.
+#![tactic(auto)]
+
 ghost use Rattle.std.specs.Prelude.{◌≡◌};
 ghost use Rattle.layout.specs.Content.{live_vertices, position};
 ghost use Rattle.layout.specs.Layout.{limit, read};

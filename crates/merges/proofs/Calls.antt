@@ -33,7 +33,7 @@ unfolding merge_result on_live on_other
 merge-done v w ws t m =
     rw (m.kept-live, m.gone-live, ne_eqb v w m.two) (first-none (side_by_side v w) (by_number side_by_side_in) t.hyperedges ws _ m.apart)
 
--- what a result_of that is no refusal says
+-- what a result that is no refusal says
 Meets : ℕ → ℕ → Table → Result → Type 0
 Meets v w t r = r.number ≡ 0 → Mergeable v w t × (r.lent ≡ words limit (merge_vertices v w t))
 

@@ -1,1 +1,2 @@
 // Merging one vertex into another. It has no code of its own.
+#![tactic(auto)]

@@ -1,4 +1,6 @@
 // What is said of a command that was refused, and of a file that has a faulty line, written on a page.
+#![tactic(auto)]
+
 ghost use Rattle.std.specs.Prelude.{◌≡◌};
 ghost use Rattle.layout.specs.Answers.{number, detail};
 ghost use Rattle.wording.specs.Pages.{page, write};

@@ -1,15 +1,12 @@
 -- Laws of what is said of a line that is no command. Assumes nothing.
-use mathlib.Core.Path.{◌≡◌}
+use mathlib.Core.Path.{◌≡◌, refl}
 use mathlib.Core.Bool.{Bool, not}
 use mathlib.Core.List.{List, [], ◌∷◌}
 use Prim.Native.Nat.{ℕ}
-use types.Run.{OneOf, miss}
-use denote.Enum.Declared.{tag_of}
 use Rattle.wording.specs.Texts.{text}
 use Rattle.wording.specs.Pages.{Page, page, write}
 use Rattle.wording.specs.Forms.{filled}
 use Rattle.wording.proofs.Writing.{nothing_written}
-use Rattle.commands.specs.contracts.Command as commands
 use Rattle.commands.specs.declared.Command.{Command}
 use Rattle.commands.specs.declared.Command.TheVariants.{Init, Ask, View, Make, Help, HelpOn, Version, Unknown, NotNumber, WrongCount, TooMany}
 use Rattle.help_texts.specs.Help.{help_on}
@@ -36,17 +33,18 @@ pub as-misuse : (p e : Page) (single : Bool) (line : ℕ) (said : List ℕ) (c d
 as-misuse p e single line said c d h w = rw h w
 
 -- commands of which nothing is said
-pub no-misuse : (single : Bool) (line : ℕ) (said b : List ℕ) (at : ℕ) (c : Command) → OneOf (1 ∷ 2 ∷ 3 ∷ 4 ∷ 5 ∷ 6 ∷ []) (tag_of commands.the_type c)
+pub no-misuse : (single : Bool) (line : ℕ) (said b : List ℕ) (at : ℕ) (c : Command)
+    → (c ≡ Init → ⊥) → (c ≡ Unknown → ⊥) → ((i : ℕ) → c ≡ NotNumber i → ⊥) → ((n : ℕ) → c ≡ WrongCount n → ⊥) → (c ≡ TooMany → ⊥)
     → page b at ≡ write (misuse_text single line c said) (page b at)
 unfolding misuse_text
-no-misuse single line said b at Init k = absurd (miss (1 ∷ 2 ∷ 3 ∷ 4 ∷ 5 ∷ 6 ∷ []) 0 tt k)
-no-misuse single line said b at (Ask q) k = nothing_written b at
-no-misuse single line said b at (View l) k = nothing_written b at
-no-misuse single line said b at (Make m) k = nothing_written b at
-no-misuse single line said b at Help k = nothing_written b at
-no-misuse single line said b at (HelpOn n) k = nothing_written b at
-no-misuse single line said b at Version k = nothing_written b at
-no-misuse single line said b at Unknown k = absurd (miss (1 ∷ 2 ∷ 3 ∷ 4 ∷ 5 ∷ 6 ∷ []) 7 tt k)
-no-misuse single line said b at (NotNumber i) k = absurd (miss (1 ∷ 2 ∷ 3 ∷ 4 ∷ 5 ∷ 6 ∷ []) 8 tt k)
-no-misuse single line said b at (WrongCount n) k = absurd (miss (1 ∷ 2 ∷ 3 ∷ 4 ∷ 5 ∷ 6 ∷ []) 9 tt k)
-no-misuse single line said b at TooMany k = absurd (miss (1 ∷ 2 ∷ 3 ∷ 4 ∷ 5 ∷ 6 ∷ []) 10 tt k)
+no-misuse single line said b at Init i u n w t = absurd (i refl)
+no-misuse single line said b at (Ask q) i u n w t = nothing_written b at
+no-misuse single line said b at (View l) i u n w t = nothing_written b at
+no-misuse single line said b at (Make m) i u n w t = nothing_written b at
+no-misuse single line said b at Help i u n w t = nothing_written b at
+no-misuse single line said b at (HelpOn k) i u n w t = nothing_written b at
+no-misuse single line said b at Version i u n w t = nothing_written b at
+no-misuse single line said b at Unknown i u n w t = absurd (u refl)
+no-misuse single line said b at (NotNumber j) i u n w t = absurd (n j refl)
+no-misuse single line said b at (WrongCount j) i u n w t = absurd (w j refl)
+no-misuse single line said b at TooMany i u n w t = absurd (t refl)

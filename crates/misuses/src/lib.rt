@@ -1,4 +1,6 @@
 // What is said of a line that is no command, written on a page.
+#![tactic(auto)]
+
 ghost use Rattle.std.specs.Prelude.{◌≡◌};
 ghost use Rattle.wording.specs.Pages.{page, write};
 ghost use Rattle.misuses.specs.Misuses.{spoken, number_text, usage_text, misuse_text};

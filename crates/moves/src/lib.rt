@@ -1,4 +1,6 @@
 // What a draw takes: a hyperedge of a vertex, and another member of it.
+#![tactic(auto)]
+
 ghost use Rattle.std.specs.Prelude.{◌≡◌, ◌<◌, ◌≤◌, ◌^◌, length, get_or, take};
 ghost use Rattle.layout.specs.Layout.{limit, vertex_limit, vertex_count, hyperedge_count, members_at};
 ghost use Rattle.layout.specs.Inner.{Formed};

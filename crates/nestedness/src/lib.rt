@@ -1,4 +1,6 @@
 // How many lists of each size lie within another.
+#![tactic(auto)]
+
 ghost use Rattle.std.specs.Prelude.{◌≡◌, ◌<◌, ◌≤◌, eqb, length};
 ghost use Rattle.lists.specs.Lists.{over};
 ghost use Rattle.lists.specs.Inner.{Wrote};

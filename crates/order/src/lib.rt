@@ -1,4 +1,6 @@
 // The sort of the numbers below n along the steps that a matrix marks: each next number is the smallest that waits for none.
+#![tactic(auto)]
+
 ghost use Rattle.std.specs.Prelude.{◌≡◌, true, not, ◌+◌, ◌-◌, ◌<◌, ◌≤◌, eqb};
 ghost use Rattle.lists.specs.Tests.{◌and◌, bit, every};
 ghost use Rattle.graph.specs.Reach.{matrix};

@@ -1,4 +1,6 @@
 // Vertices in no list, and the endpoints.
+#![tactic(auto)]
+
 ghost use Rattle.std.specs.Prelude.{◌≡◌, not, ℕ, ◌<◌, ◌≤◌, length};
 ghost use Rattle.lists.specs.Lists.{counted};
 ghost use Rattle.lists.specs.Inner.{Wrote};

@@ -1,4 +1,6 @@
 // A line of commands, parsed.
+#![tactic(auto)]
+
 ghost use Rattle.std.specs.Prelude.{◌≡◌, min, ◌≤◌, ◌<◌, length, take};
 ghost use Rattle.lists.specs.Lists.{word_at};
 ghost use Rattle.layout.specs.declared.Found.TheVariants.{At};

@@ -1,4 +1,6 @@
 // Paths: the words of their answers, written at a place of the lent slice.
+#![tactic(auto)]
+
 ghost use Rattle.std.specs.Prelude.{◌≡◌, [], ◌∷◌, ◌+◌, ◌≤◌, length};
 ghost use Rattle.lists.specs.Inner.{over_at};
 

@@ -146,7 +146,7 @@ merge-vertices-agrees κs args a b x y p q = agree _ p q
 pub remove-hyperedge-agrees : Agrees 1 remove-hyperedge.ps remove-hyperedge.r remove-hyperedge-reads.Post (λ _ x. x.0.now)
 remove-hyperedge-agrees κs args a b x y p q = agree _ p q
 
--- a tray: the promise, that it is the contract, and that it determines the result_of
+-- a tray: the promise, that it is the contract, and that it determines the result
 abbrev tray-promise : Promise withdraw-tray.ended
 tray-promise κs args r x = result_of r x.0.now ≡ on_formed args.0.now args.0.now (tray_result args.1.0.now args.0.now)
 

@@ -1,1 +1,2 @@
 // What holds of every entry point's promise: theorems alone, no code.
+#![tactic(auto)]

@@ -1,4 +1,6 @@
 // Properties of a whole table: uniform size, orphan hyperedges, cut vertices.
+#![tactic(auto)]
+
 ghost use Rattle.std.specs.Prelude.{◌≡◌, []};
 ghost use Rattle.layout.specs.Layout.{limit, read};
 ghost use Rattle.layout.specs.Inner.{Formed};

@@ -1,4 +1,6 @@
 // What is read, put into words.
+#![tactic(auto)]
+
 ghost use Rattle.std.specs.Prelude.{◌≡◌, ◌+◌, ◌*◌, ◌<◌, ◌≤◌, [], ◌∷◌, length};
 ghost use Rattle.lists.specs.Lists.{tab};
 ghost use Rattle.layout.specs.Content.{is_live, vertex_of};

@@ -1,4 +1,6 @@
 // The states written as a text.
+#![tactic(auto)]
+
 ghost use Rattle.std.specs.Prelude.{◌≡◌, ◌<◌, length};
 ghost use Rattle.lists.specs.Lists.{word_at};
 ghost use Rattle.layout.specs.Content.{live_vertices};

@@ -1,4 +1,6 @@
 // The sheets of the questions whose answer is a listing, written from the words of the listing.
+#![tactic(auto)]
+
 ghost use Rattle.std.specs.Prelude.{◌≡◌};
 ghost use Rattle.wording.specs.Pages.{page, write};
 ghost use Rattle.query_lines.specs.Queries.{shape, entries, plainly, entries_or_none, query_sheet};

@@ -1,4 +1,6 @@
 // A question asked of a table, and its answer written as a sheet.
+#![tactic(auto)]
+
 ghost use Rattle.std.specs.Prelude.{◌≡◌, take};
 ghost use Rattle.layout.specs.Answers.{result_of};
 ghost use Rattle.wording.specs.Pages.{page};

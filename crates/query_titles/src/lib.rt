@@ -1,4 +1,6 @@
 // The title of a question's sheet.
+#![tactic(auto)]
+
 ghost use Rattle.std.specs.Prelude.{◌≡◌, [], ◌∷◌};
 ghost use Rattle.wording.specs.Texts.{text};
 ghost use Rattle.wording.specs.Pages.{page, write};

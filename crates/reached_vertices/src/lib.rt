@@ -1,4 +1,6 @@
 // The other vertices that are upstream of a vertex, and those that are downstream of it.
+#![tactic(auto)]
+
 ghost use Rattle.std.specs.Prelude.{◌≡◌, ℕ, ◌<◌, ◌≤◌};
 ghost use Rattle.layout.specs.Layout.{limit, vertex_limit, vertex_count, read};
 ghost use Rattle.layout.specs.Inner.{Formed};

@@ -1,4 +1,6 @@
 // A table read from its text.
+#![tactic(auto)]
+
 ghost use Rattle.std.specs.Prelude.{◌≡◌, length};
 ghost use Rattle.lists.specs.Inner.{blank};
 ghost use Rattle.layout.specs.Layout.{limit, size};

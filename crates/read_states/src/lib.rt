@@ -1,4 +1,6 @@
 // The states read from a text.
+#![tactic(auto)]
+
 ghost use Rattle.std.specs.Prelude.{◌≡◌, ◌<◌, length};
 ghost use Rattle.lists.specs.Inner.{blank};
 ghost use Rattle.layout.specs.Content.{live_vertices, position};

@@ -20,7 +20,7 @@ use Rattle.frames.specs.Put.{Put}
 use Rattle.frames.specs.Reading.{next_hyperedge_of, vertices_due, hyperedges_due, vertex_place, byte_at, number_in, count_in, member_in, hyperedge_place, hyperedge_from, hyperedge_in, hyperedge_number_in, hyperedge_good, content_of}
 use Rattle.frames.proofs.Laws.{put-length, put-append, put_as}
 use Rattle.frames.proofs.Lines.{put-none}
-use Rattle.reader.specs.Lines.{behind, Sealed, lowest, number_fits}
+use Rattle.reader.specs.Lines.{Sealed, lowest, number_fits}
 use Rattle.reader.specs.Passes.{Live}
 use Rattle.reader.specs.Hyperedges.{hyperedge_fits, VerticesStored, HyperedgeRead, HyperedgesRead}
 use Rattle.reader.proofs.Ends.{behind-failed, behind-passed, stays-failed, goes-passed, goes_by}

@@ -1,4 +1,6 @@
 // Frame text read back: the values of its digits, and a reader that holds the text and its place.
+#![tactic(auto)]
+
 ghost use Rattle.std.specs.Prelude.{◌≡◌, ◌+◌, ◌*◌, ◌≤◌, length};
 ghost use Rattle.frames.specs.Reading.{no_value, value, byte_at, short_at, number_at};
 ghost use Rattle.reader.specs.Lines.{Valued, line_end};

@@ -1,4 +1,6 @@
 // Plain reads: the weight of a vertex or of a hyperedge, a hyperedge's members, and the live numbers.
+#![tactic(auto)]
+
 ghost use Rattle.std.specs.Prelude.{◌≡◌, [], ◌+◌, ◌*◌, ◌<◌, ◌≤◌, length};
 ghost use Rattle.lists.specs.Lists.{over};
 ghost use Rattle.layout.specs.Layout.{limit, hyperedge_count, members_at, read};

@@ -1,4 +1,6 @@
 // Lines of tubes and of transfers, written on a page.
+#![tactic(auto)]
+
 ghost use Rattle.std.specs.Prelude.{◌≡◌, ◌<◌, length};
 ghost use Rattle.lists.specs.Lists.{any, flat};
 ghost use Rattle.layout.specs.Content.{lists, hyperedges_of};

@@ -1,4 +1,6 @@
 // Labels lowered along the steps of a place.
+#![tactic(auto)]
+
 ghost use Rattle.std.specs.Prelude.{◌≡◌, ◌+◌, ◌*◌, ◌<◌, ◌≤◌, length, get_or, set};
 ghost use Rattle.distance.specs.Labels.{Relaxed};
 ghost use Rattle.distance.specs.Blocks.{Blocks};

@@ -1,5 +1,7 @@
 // A day at the release desk. Four tubes are registered: 1 and 2 are taken from 0, and both go into 3. All are reviewed, one is released too early, an order is
 // refused and one is accepted, all are released going down it, and a tube is withdrawn. A line for each call: what was asked, and what the desk answered.
+#![tactic(auto)]
+
 use desk_edits::{desk_add_hyperedge, desk_add_vertex};
 use desk_looks::desk_state;
 use desk_order::desk_accept_order;
@@ -7,186 +9,184 @@ use desk_release::desk_release;
 use desk_removals::desk_remove_vertex;
 use desk_review::desk_review;
 use layout::{Answer, VertexIndex};
-use libc::STDOUT_FILENO;
+use std::io;
 
-fn print(text: &[u8]) {
-    io::write_all(STDOUT_FILENO, text);
+fn print(rt: &impl Print, text: &str) -> io::Result<()> {
+    rt.print(text)
 }
 
-fn print_number(n: u64) {
-    io::print_decimal(STDOUT_FILENO, n);
+fn print_number(rt: &impl Print, n: u64) -> io::Result<()> {
+    rt.print(n)
 }
 
 // What a refusal's detail is, by the answer's number.
-fn print_ground(number: u32) {
+fn print_ground(rt: &impl Print, number: u32) -> io::Result<()> {
     if number == 3 {
-        print(b", not live: tube ");
-        return;
+        return print(rt, ", not live: tube ");
     }
     if number == 17 {
-        print(b", not reviewed: tube ");
-        return;
+        return print(rt, ", not reviewed: tube ");
     }
     if number == 18 {
-        print(b", upstream not released: tube ");
-        return;
+        return print(rt, ", upstream not released: tube ");
     }
     if number == 19 {
-        print(b", at fault: place ");
-        return;
+        return print(rt, ", at fault: place ");
     }
-    print(b", detail ");
+    print(rt, ", detail ")
 }
 
-fn print_answer(a: Answer) {
+fn print_answer(rt: &impl Print, a: Answer) -> io::Result<()> {
     let r = layout::reply_of(a);
     if r.number == 0 {
-        print(b": done\n");
-        return;
+        return print(rt, ": done\n");
     }
-    print(b": refused ");
-    print_number(r.number as u64);
-    print_ground(r.number);
-    print_number(r.detail);
-    print(b"\n");
+    print(rt, ": refused ")?;
+    print_number(rt, r.number as u64)?;
+    print_ground(rt, r.number)?;
+    print_number(rt, r.detail)?;
+    print(rt, "\n")
 }
 
-fn print_state(state: u64) {
+fn print_state(rt: &impl Print, state: u64) -> io::Result<()> {
     if state == 0 {
-        print(b" is waiting\n");
-        return;
+        return print(rt, " is waiting\n");
     }
     if state == 1 {
-        print(b" is reviewed\n");
-        return;
+        return print(rt, " is reviewed\n");
     }
-    print(b" is released\n");
+    print(rt, " is released\n")
 }
 
-fn register(t: &mut [u32], s: &mut [u32], weight: u32) {
+fn register(rt: &impl Print, t: &mut [u32], s: &mut [u32], weight: u32) -> io::Result<()> {
     let r = layout::reply_of(desk_add_vertex(t, s, weight));
-    print(b"registered: tube ");
-    print_number(r.detail);
-    print(b"\n");
+    print(rt, "registered: tube ")?;
+    print_number(rt, r.detail)?;
+    print(rt, "\n")
 }
 
-fn transfer(t: &mut [u32], s: &mut [u32], what: &[u8], members: &[u32]) {
-    print(b"transfer ");
-    print(what);
-    print_answer(desk_add_hyperedge(t, s, members, 5));
+fn transfer(
+    rt: &impl Print,
+    t: &mut [u32],
+    s: &mut [u32],
+    what: &str,
+    members: &[u32],
+) -> io::Result<()> {
+    print(rt, "transfer ")?;
+    print(rt, what)?;
+    print_answer(rt, desk_add_hyperedge(t, s, members, 5))
 }
 
-fn review(t: &[u32], s: &mut [u32], v: u32) {
-    print(b"review tube ");
-    print_number(v as u64);
-    print_answer(desk_review(t, s, VertexIndex(v)));
+fn review(rt: &impl Print, t: &[u32], s: &mut [u32], v: u32) -> io::Result<()> {
+    print(rt, "review tube ")?;
+    print_number(rt, v as u64)?;
+    print_answer(rt, desk_review(t, s, VertexIndex(v)))
 }
 
-fn release(t: &[u32], s: &mut [u32], v: u32) {
-    print(b"release tube ");
-    print_number(v as u64);
-    print_answer(desk_release(t, s, VertexIndex(v)));
+fn release(rt: &impl Print, t: &[u32], s: &mut [u32], v: u32) -> io::Result<()> {
+    print(rt, "release tube ")?;
+    print_number(rt, v as u64)?;
+    print_answer(rt, desk_release(t, s, VertexIndex(v)))
 }
 
-fn withdraw(t: &mut [u32], s: &mut [u32], v: u32) {
-    print(b"withdraw tube ");
-    print_number(v as u64);
-    print_answer(desk_remove_vertex(t, s, VertexIndex(v)));
+fn withdraw(rt: &impl Print, t: &mut [u32], s: &mut [u32], v: u32) -> io::Result<()> {
+    print(rt, "withdraw tube ")?;
+    print_number(rt, v as u64)?;
+    print_answer(rt, desk_remove_vertex(t, s, VertexIndex(v)))
 }
 
-fn look(t: &[u32], s: &[u32], v: u32) {
+fn look(rt: &impl Print, t: &[u32], s: &[u32], v: u32) -> io::Result<()> {
     let r = layout::reply_of(desk_state(t, s, VertexIndex(v)));
-    print(b"tube ");
-    print_number(v as u64);
+    print(rt, "tube ")?;
+    print_number(rt, v as u64)?;
     if r.number == 0 {
-        print_state(r.detail);
-        return;
+        return print_state(rt, r.detail);
     }
-    print(b" is not live\n");
+    print(rt, " is not live\n")
 }
 
-fn hand_in(t: &[u32], s: &[u32], what: &[u8], order: &[u32]) {
-    print(b"order ");
-    print(what);
-    print_answer(desk_accept_order(t, s, order));
+fn hand_in(rt: &impl Print, t: &[u32], s: &[u32], what: &str, order: &[u32]) -> io::Result<()> {
+    print(rt, "order ")?;
+    print(rt, what)?;
+    print_answer(rt, desk_accept_order(t, s, order))
 }
 
-fn registers(t: &mut [u32], s: &mut [u32]) {
-    register(t, s, 70);
-    register(t, s, 71);
-    register(t, s, 72);
-    register(t, s, 73);
+fn registers(rt: &impl Print, t: &mut [u32], s: &mut [u32]) -> io::Result<()> {
+    register(rt, t, s, 70)?;
+    register(rt, t, s, 71)?;
+    register(rt, t, s, 72)?;
+    register(rt, t, s, 73)
 }
 
-fn transfers(t: &mut [u32], s: &mut [u32]) {
+fn transfers(rt: &impl Print, t: &mut [u32], s: &mut [u32]) -> io::Result<()> {
     let left = [0u32, 1, 3];
     let right = [0u32, 2, 3];
-    transfer(t, s, b"0 1 3", &left);
-    transfer(t, s, b"0 2 3", &right);
+    transfer(rt, t, s, "0 1 3", &left)?;
+    transfer(rt, t, s, "0 2 3", &right)
 }
 
-fn reviews(t: &[u32], s: &mut [u32]) {
-    release(t, s, 0);
-    review(t, s, 0);
-    review(t, s, 1);
-    review(t, s, 2);
-    review(t, s, 3);
-    release(t, s, 0);
-    release(t, s, 2);
-    release(t, s, 3);
+fn reviews(rt: &impl Print, t: &[u32], s: &mut [u32]) -> io::Result<()> {
+    release(rt, t, s, 0)?;
+    review(rt, t, s, 0)?;
+    review(rt, t, s, 1)?;
+    review(rt, t, s, 2)?;
+    review(rt, t, s, 3)?;
+    release(rt, t, s, 0)?;
+    release(rt, t, s, 2)?;
+    release(rt, t, s, 3)
 }
 
-fn orders(t: &[u32], s: &[u32]) {
+fn orders(rt: &impl Print, t: &[u32], s: &[u32]) -> io::Result<()> {
     let back = [0u32, 1, 3, 2];
     let twice = [0u32, 2, 0, 3];
     let good = [0u32, 2, 1, 3];
-    hand_in(t, s, b"0 1 3 2", &back);
-    hand_in(t, s, b"0 2 0 3", &twice);
-    hand_in(t, s, b"0 2 1", &good[..3]);
-    hand_in(t, s, b"0 2 1 3", &good);
+    hand_in(rt, t, s, "0 1 3 2", &back)?;
+    hand_in(rt, t, s, "0 2 0 3", &twice)?;
+    hand_in(rt, t, s, "0 2 1", &good[..3])?;
+    hand_in(rt, t, s, "0 2 1 3", &good)
 }
 
 // Going down the order: tubes 0 and 2 are released already.
-fn releases(t: &[u32], s: &mut [u32]) {
-    release(t, s, 0);
-    release(t, s, 2);
-    release(t, s, 1);
-    release(t, s, 3);
+fn releases(rt: &impl Print, t: &[u32], s: &mut [u32]) -> io::Result<()> {
+    release(rt, t, s, 0)?;
+    release(rt, t, s, 2)?;
+    release(rt, t, s, 1)?;
+    release(rt, t, s, 3)
 }
 
-fn states(t: &[u32], s: &[u32]) {
-    look(t, s, 0);
-    look(t, s, 1);
-    look(t, s, 2);
-    look(t, s, 3);
-    look(t, s, 4);
+fn states(rt: &impl Print, t: &[u32], s: &[u32]) -> io::Result<()> {
+    look(rt, t, s, 0)?;
+    look(rt, t, s, 1)?;
+    look(rt, t, s, 2)?;
+    look(rt, t, s, 3)?;
+    look(rt, t, s, 4)
 }
 
 // A tube that comes late, and one that is withdrawn.
-fn changes(t: &mut [u32], s: &mut [u32]) {
+fn changes(rt: &impl Print, t: &mut [u32], s: &mut [u32]) -> io::Result<()> {
     let late = [3u32, 4];
-    register(t, s, 74);
-    transfer(t, s, b"3 4", &late);
-    withdraw(t, s, 1);
+    register(rt, t, s, 74)?;
+    transfer(rt, t, s, "3 4", &late)?;
+    withdraw(rt, t, s, 1)
 }
 
-fn last_signatures(t: &[u32], s: &mut [u32]) {
-    review(t, s, 1);
-    review(t, s, 3);
-    review(t, s, 4);
-    release(t, s, 4);
+fn last_signatures(rt: &impl Print, t: &[u32], s: &mut [u32]) -> io::Result<()> {
+    review(rt, t, s, 1)?;
+    review(rt, t, s, 3)?;
+    review(rt, t, s, 4)?;
+    release(rt, t, s, 4)
 }
 
-fn main() {
+fn main(rt: HostRuntime) -> io::Result<()> {
     let mut t = [0u32; layout::SIZE];
     let mut s = [0u32; layout::VERTEX_LIMIT];
-    registers(&mut t, &mut s);
-    transfers(&mut t, &mut s);
-    reviews(&t, &mut s);
-    orders(&t, &s);
-    releases(&t, &mut s);
-    changes(&mut t, &mut s);
-    states(&t, &s);
-    last_signatures(&t, &mut s);
-    states(&t, &s);
+    registers(&rt, &mut t, &mut s)?;
+    transfers(&rt, &mut t, &mut s)?;
+    reviews(&rt, &t, &mut s)?;
+    orders(&rt, &t, &s)?;
+    releases(&rt, &t, &mut s)?;
+    changes(&rt, &mut t, &mut s)?;
+    states(&rt, &t, &s)?;
+    last_signatures(&rt, &t, &mut s)?;
+    states(&rt, &t, &s)
 }

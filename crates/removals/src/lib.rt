@@ -1,1 +1,2 @@
 // Removals, one after the other. It has no code of its own.
+#![tactic(auto)]

@@ -1,4 +1,6 @@
 // Removing a hyperedge.
+#![tactic(auto)]
+
 ghost use Rattle.std.specs.Prelude.{◌≡◌, ◌++◌, ◌*◌, ◌-◌, ◌<◌, ◌≤◌, length, set, take, drop};
 ghost use Rattle.lists.specs.Inner.{shifted};
 ghost use Rattle.layout.specs.Layout.{limit, hyperedge_limit, record_size, hyperedges_at, size, read};

@@ -1,4 +1,6 @@
 // A vertex renamed in every list.
+#![tactic(auto)]
+
 ghost use Rattle.std.specs.Prelude.{◌≡◌, map, ◌+◌, ◌<◌, ◌≤◌, length, take, drop};
 ghost use Rattle.std.proofs.Math.Seq.{paste};
 ghost use Rattle.layout.specs.Layout.{limit, hyperedge_limit, size, hyperedge_word, count_at, members_at, read, words};

@@ -1,5 +1,7 @@
 // Recorded answers, replayed: what the crates of this layer share. Records are read from bytes, the calls that they name are made, and what
 // they answer is held against what is recorded. `compare/README.md` has the form of the records.
+#![tactic(auto)]
+
 pub mod tally;
 
 // A number and the place after it.

@@ -3,13 +3,13 @@
 ghost use Rattle.std.specs.Prelude.{◌≡◌, slice_index};
 ghost use Rattle.replay.specs.Judging.{one_more, counted_in, total_count, compared_in};
 
-use libc::STDOUT_FILENO;
+use std::io;
 
 fn more(tally: &mut [u32], i: usize)
     ensures { tally.new ≡ one_more i tally.old }
 {
     if i < tally.len() {
-        tally[i] = std::num::wrapping_add_u32(tally[i], 1);
+        tally[i] = tally[i].wrapping_add(1);
     }
 }
 
@@ -31,7 +31,7 @@ fn total(counts: &[u32], n: usize) -> u32
 {
     let mut sum: u32 = 0;
     for k in 0..n {
-        sum = std::num::wrapping_add_u32(sum, at(counts, k));
+        sum = sum.wrapping_add(at(counts, k));
     }
     sum
 }
@@ -51,25 +51,22 @@ pub fn compared(tally: &[u32]) -> u32
     total(tally, tally.len() / 2)
 }
 
-fn say(name: &[u8], compared: u32, differing: u32) {
-    io::write_all(STDOUT_FILENO, name);
-    io::write_all(STDOUT_FILENO, b": ");
-    io::print_decimal(STDOUT_FILENO, compared as u64);
-    io::write_all(STDOUT_FILENO, b" compared, ");
-    io::print_decimal(STDOUT_FILENO, differing as u64);
-    io::write_all(STDOUT_FILENO, b" differ\n");
+fn say(rt: &impl Print, name: &[u8], compared: u32, differing: u32) -> io::Result<()> {
+    rt.write_all(name)?;
+    println!(rt; ": {compared} compared, {differing} differ")
 }
 
 // A line for the function of place f.
-pub fn line(name: &[u8], f: usize, tally: &[u32]) {
+pub fn line(rt: &impl Print, name: &[u8], f: usize, tally: &[u32]) -> io::Result<()> {
     let half = tally.len() / 2;
     if f < half {
-        say(name, at(tally, f), at(tally, half + f));
+        say(rt, name, at(tally, f), at(tally, half + f))?;
     }
+    Ok(())
 }
 
 // The line of all functions.
-pub fn all(tally: &[u32]) {
+pub fn all(rt: &impl Print, tally: &[u32]) -> io::Result<()> {
     let half = tally.len() / 2;
-    say(b"all", compared(tally), total(&tally[half..], half));
+    say(rt, b"all", compared(tally), total(&tally[half..], half))
 }

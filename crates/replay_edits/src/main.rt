@@ -1,7 +1,10 @@
 // Replays recorded answers of the Rust: the edits, and whether a table is empty. A line for each function: how many answers were compared,
 // and how many differ.
+#![tactic(auto)]
+
 use hypergraph::is_empty;
 use replay::tally;
+use std::io;
 
 // The place of the function in the tally, behind those of the edits.
 const IS_EMPTY: usize = 8;
@@ -31,18 +34,18 @@ fn records(s: &[u8], t: &mut [u32], tally: &mut [u32]) -> usize {
     at
 }
 
-fn run(s: &[u8]) {
+fn run(rt: &impl Print, s: &[u8]) -> io::Result<()> {
     let mut t = [0u32; layout::SIZE];
     let mut tally = [0u32; 64];
     let end = records(s, &mut t, &mut tally);
-    replay_tables::lines(&tally);
-    tally::line(b"is_empty", IS_EMPTY, &tally);
-    tally::all(&tally);
-    replay_tables::say_end(end);
+    replay_tables::lines(rt, &tally)?;
+    tally::line(rt, b"is_empty", IS_EMPTY, &tally)?;
+    tally::all(rt, &tally)?;
+    replay_tables::say_end(rt, end)
 }
 
-fn main() {
+fn main(rt: HostRuntime) -> io::Result<()> {
     let mut bytes = [0u8; 262144];
-    let n = replay_reading::file(&mut bytes);
-    run(&bytes[..n]);
+    let n = replay_reading::file(&rt, &mut bytes)?;
+    run(&rt, &bytes[..n])
 }

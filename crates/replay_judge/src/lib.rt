@@ -1,4 +1,6 @@
 // Answers held against recorded ones.
+#![tactic(auto)]
+
 ghost use Rattle.std.specs.Prelude.{◌≡◌, min, slice_index};
 ghost use Rattle.lists.specs.Tests.{◌and◌};
 ghost use Rattle.layout.specs.Answers.{number, detail};
@@ -78,7 +80,7 @@ pub const START: u64 = 11400714819323198485;
 pub fn mix(sum: u64, word: u32) -> u64
     ensures { result ≡ mixed sum word }
 {
-    let x = std::num::wrapping_add_u64(sum, word as u64);
+    let x = sum.wrapping_add(word as u64);
     let a = x ^ (x << 13);
     let b = a ^ (a >> 7);
     b ^ (b << 17)

@@ -1,6 +1,9 @@
 // Replays recorded answers of the Rust: the lookups. A line for each function: how many answers were compared, and how many differ.
+#![tactic(auto)]
+
 use layout::VertexIndex;
 use replay::tally;
+use std::io;
 
 // The place of each function in the tally, behind those of the edits.
 const GET_ADJACENT_VERTICES_FROM: usize = 8;
@@ -161,63 +164,80 @@ fn records(s: &[u8], t: &mut [u32], out: &mut [u32], tally: &mut [u32]) -> usize
     at
 }
 
-fn lines(tally: &[u32]) {
-    replay_tables::lines(tally);
+fn lines(rt: &impl Print, tally: &[u32]) -> io::Result<()> {
+    replay_tables::lines(rt, tally)?;
     tally::line(
+        rt,
         b"get_adjacent_vertices_from",
         GET_ADJACENT_VERTICES_FROM,
         tally,
-    );
-    tally::line(b"get_adjacent_vertices_to", GET_ADJACENT_VERTICES_TO, tally);
+    )?;
     tally::line(
+        rt,
+        b"get_adjacent_vertices_to",
+        GET_ADJACENT_VERTICES_TO,
+        tally,
+    )?;
+    tally::line(
+        rt,
         b"get_full_adjacent_vertices_from",
         GET_FULL_ADJACENT_VERTICES_FROM,
         tally,
-    );
+    )?;
     tally::line(
+        rt,
         b"get_full_adjacent_vertices_to",
         GET_FULL_ADJACENT_VERTICES_TO,
         tally,
-    );
-    tally::line(b"get_vertex_degree_in", GET_VERTEX_DEGREE_IN, tally);
-    tally::line(b"get_vertex_degree_out", GET_VERTEX_DEGREE_OUT, tally);
+    )?;
+    tally::line(rt, b"get_vertex_degree_in", GET_VERTEX_DEGREE_IN, tally)?;
+    tally::line(rt, b"get_vertex_degree_out", GET_VERTEX_DEGREE_OUT, tally)?;
     tally::line(
+        rt,
         b"get_full_vertex_hyperedges",
         GET_FULL_VERTEX_HYPEREDGES,
         tally,
-    );
-    tally::line(b"get_vertex_neighborhood", GET_VERTEX_NEIGHBORHOOD, tally);
+    )?;
     tally::line(
+        rt,
+        b"get_vertex_neighborhood",
+        GET_VERTEX_NEIGHBORHOOD,
+        tally,
+    )?;
+    tally::line(
+        rt,
         b"get_hyperedges_connecting",
         GET_HYPEREDGES_CONNECTING,
         tally,
-    );
+    )?;
     tally::line(
+        rt,
         b"find_hyperedges_by_weight",
         FIND_HYPEREDGES_BY_WEIGHT,
         tally,
-    );
-    tally::line(b"contains_vertex", CONTAINS_VERTEX, tally);
-    tally::line(b"get_vertex_index", GET_VERTEX_INDEX, tally);
+    )?;
+    tally::line(rt, b"contains_vertex", CONTAINS_VERTEX, tally)?;
+    tally::line(rt, b"get_vertex_index", GET_VERTEX_INDEX, tally)?;
     tally::line(
+        rt,
         b"get_hyperedges_intersections",
         GET_HYPEREDGES_INTERSECTIONS,
         tally,
-    );
-    tally::all(tally);
+    )?;
+    tally::all(rt, tally)
 }
 
-fn run(s: &[u8]) {
+fn run(rt: &impl Print, s: &[u8]) -> io::Result<()> {
     let mut t = [0u32; layout::SIZE];
     let mut out = [0u32; 8192];
     let mut tally = [0u32; 64];
     let end = records(s, &mut t, &mut out, &mut tally);
-    lines(&tally);
-    replay_tables::say_end(end);
+    lines(rt, &tally)?;
+    replay_tables::say_end(rt, end)
 }
 
-fn main() {
+fn main(rt: HostRuntime) -> io::Result<()> {
     let mut bytes = [0u8; 262144];
-    let n = replay_reading::file(&mut bytes);
-    run(&bytes[..n]);
+    let n = replay_reading::file(&rt, &mut bytes)?;
+    run(&rt, &bytes[..n])
 }

@@ -1,5 +1,8 @@
 // Replays recorded answers of the Rust: the properties. A line for each function: how many answers were compared, and how many differ.
+#![tactic(auto)]
+
 use replay::tally;
+use std::io;
 
 // The place of each function in the tally, behind those of the edits.
 const GET_ORPHAN_VERTICES: usize = 8;
@@ -73,29 +76,29 @@ fn records(s: &[u8], t: &mut [u32], out: &mut [u32], tally: &mut [u32]) -> usize
     at
 }
 
-fn lines(tally: &[u32]) {
-    replay_tables::lines(tally);
-    tally::line(b"get_orphan_vertices", GET_ORPHAN_VERTICES, tally);
-    tally::line(b"get_orphan_hyperedges", GET_ORPHAN_HYPEREDGES, tally);
-    tally::line(b"get_endpoints", GET_ENDPOINTS, tally);
-    tally::line(b"get_inclusions", GET_INCLUSIONS, tally);
-    tally::line(b"find_cut_vertices", FIND_CUT_VERTICES, tally);
-    tally::line(b"get_nestedness_profile", GET_NESTEDNESS_PROFILE, tally);
-    tally::line(b"is_k_uniform", IS_K_UNIFORM, tally);
-    tally::all(tally);
+fn lines(rt: &impl Print, tally: &[u32]) -> io::Result<()> {
+    replay_tables::lines(rt, tally)?;
+    tally::line(rt, b"get_orphan_vertices", GET_ORPHAN_VERTICES, tally)?;
+    tally::line(rt, b"get_orphan_hyperedges", GET_ORPHAN_HYPEREDGES, tally)?;
+    tally::line(rt, b"get_endpoints", GET_ENDPOINTS, tally)?;
+    tally::line(rt, b"get_inclusions", GET_INCLUSIONS, tally)?;
+    tally::line(rt, b"find_cut_vertices", FIND_CUT_VERTICES, tally)?;
+    tally::line(rt, b"get_nestedness_profile", GET_NESTEDNESS_PROFILE, tally)?;
+    tally::line(rt, b"is_k_uniform", IS_K_UNIFORM, tally)?;
+    tally::all(rt, tally)
 }
 
-fn run(s: &[u8]) {
+fn run(rt: &impl Print, s: &[u8]) -> io::Result<()> {
     let mut t = [0u32; layout::SIZE];
     let mut out = [0u32; 73728];
     let mut tally = [0u32; 64];
     let end = records(s, &mut t, &mut out, &mut tally);
-    lines(&tally);
-    replay_tables::say_end(end);
+    lines(rt, &tally)?;
+    replay_tables::say_end(rt, end)
 }
 
-fn main() {
+fn main(rt: HostRuntime) -> io::Result<()> {
     let mut bytes = [0u8; 262144];
-    let n = replay_reading::file(&mut bytes);
-    run(&bytes[..n]);
+    let n = replay_reading::file(&rt, &mut bytes)?;
+    run(&rt, &bytes[..n])
 }

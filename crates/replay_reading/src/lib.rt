@@ -1,11 +1,17 @@
 // Reading the bytes of the records. A read gives the place after it, and `LOST` where the bytes end too early; reading at `LOST` gives
 // `LOST` again, so that a damaged file is never read past its end.
-ghost use Rattle.std.specs.Prelude.{◌≡◌, ◌+◌, ◌*◌, ◌<◌, ◌≤◌, length};
-ghost use Rattle.io.specs.Counts.{IsPrefixLen};
+#![tactic(auto)]
+
+ghost use Rattle.std.specs.Prelude.{◌≡◌, ◌+◌, ◌*◌, ◌<◌, ◌≤◌, length, take};
+ghost use Rattle.std.specs.Io.{ReadsAtMost};
 ghost use Rattle.lists.specs.Lists.{over, tab};
 ghost use Rattle.replay.specs.Records.{byte_read, two_read, four_read, eight_read, word_read, after_words, word_number, extent_at, list_at};
 
 use replay::{Extent, LongValue, Value};
+use std::fs::File;
+use std::io;
+use std::io::Read;
+use std::rt::Files;
 
 // The place after a record that is not whole.
 pub const LOST: usize = 18446744073709551615;
@@ -104,7 +110,7 @@ fn fill(s: &[u8], at: usize, list: &mut [u32], n: usize) -> usize
 
 // A list: its length in a byte, then its words, which come to the front of `list`. A longer one than `list` is not read.
 pub fn list(s: &[u8], at: usize, list: &mut [u32]) -> Extent
-    ensures { (result ≡ extent_at s.now at (length list.old)) × ((list.new ≡ over (list_at s.now at (length list.old)) list.old) × IsPrefixLen result.count list.new) }
+    ensures { (result ≡ extent_at s.now at (length list.old)) × ((list.new ≡ over (list_at s.now at (length list.old)) list.old) × ((result.count ≤ length list.new) × (result.count ≡ length (take result.count list.new)))) }
 {
     let n = byte(s, at);
     let count = n.value as usize;
@@ -116,15 +122,29 @@ pub fn list(s: &[u8], at: usize, list: &mut [u32]) -> Extent
 }
 
 // How many bytes of the file `cases` were read into `bytes`: none where there is no such file, which is said on standard error.
-pub fn file(bytes: &mut [u8]) -> usize
-    ensures { IsPrefixLen result bytes.new }
+pub fn file(rt: &(impl Files + Eprint), bytes: &mut [u8]) -> io::Result<usize>
+    ensures { ReadsAtMost result bytes.new }
 {
-    let fd = os::open_read(b"cases");
-    if fd < 0 {
-        os::fail(b"cases");
-        return 0;
+    match File::open(rt, "cases") {
+        Ok(mut cases) => read_full(&mut cases, bytes),
+        Err(error) => {
+            eprintln!(rt; "cases: {error}")?;
+            Ok(0)
+        }
     }
-    let n = io::read_full(fd, bytes);
-    libc::close(fd);
-    n
+}
+
+// Reads until `bytes` is full or the input ends, and tells how many bytes it put at the front.
+fn read_full<R: Read>(from: &mut R, bytes: &mut [u8]) -> io::Result<usize>
+    ensures { ReadsAtMost result bytes.new }
+{
+    let mut done = 0;
+    while done < bytes.len() {
+        let n = from.read(&mut bytes[done..])?;
+        if n == 0 {
+            break;
+        }
+        done += n;
+    }
+    Ok(done)
 }

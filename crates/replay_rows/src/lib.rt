@@ -2,6 +2,8 @@
 // the order of the lists does not count.
 // The answer of a pair of vertices. Of the path that is recorded its cost and how many entries it has: another path may be as cheap, and
 // ours has the fewest entries of those. It has to begin at the first vertex, with no hyperedge, and to end at the second.
+#![tactic(auto)]
+
 ghost use Rattle.std.specs.Prelude.{◌≡◌, ◌+◌, ◌*◌};
 ghost use Rattle.layout.specs.Answers.{number, detail};
 ghost use Rattle.replay.specs.Judging.{after_count, counted_at, is_whole, same_cost, begins, same_ends, same_path, path_at, closed, one_word, rows_after, lists_read};
@@ -108,7 +110,7 @@ fn closed(r: Rows) -> Rows
     Rows {
         left: 0,
         row: START,
-        total: std::num::wrapping_add_u64(r.total, r.row),
+        total: r.total.wrapping_add(r.row),
     }
 }
 

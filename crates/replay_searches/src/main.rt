@@ -1,7 +1,10 @@
 // Replays recorded answers of the Rust: traversal, structure, paths and walks. A line for each function: how many answers were compared,
 // and how many differ.
+#![tactic(auto)]
+
 use layout::VertexIndex;
 use replay::tally;
+use std::io;
 
 // The place of each function in the tally, behind those of the edits.
 const IS_CONNECTED: usize = 8;
@@ -138,42 +141,44 @@ fn records(s: &[u8], t: &mut [u32], out: &mut [u32], tally: &mut [u32]) -> usize
     at
 }
 
-fn lines(tally: &[u32]) {
-    replay_tables::lines(tally);
-    tally::line(b"is_connected", IS_CONNECTED, tally);
-    tally::line(b"is_acyclic", IS_ACYCLIC, tally);
-    tally::line(b"topological_sort", TOPOLOGICAL_SORT, tally);
+fn lines(rt: &impl Print, tally: &[u32]) -> io::Result<()> {
+    replay_tables::lines(rt, tally)?;
+    tally::line(rt, b"is_connected", IS_CONNECTED, tally)?;
+    tally::line(rt, b"is_acyclic", IS_ACYCLIC, tally)?;
+    tally::line(rt, b"topological_sort", TOPOLOGICAL_SORT, tally)?;
     tally::line(
+        rt,
         b"strongly_connected_components",
         STRONGLY_CONNECTED_COMPONENTS,
         tally,
-    );
-    tally::line(b"connected_components", CONNECTED_COMPONENTS, tally);
-    tally::line(b"get_transitive_closure", GET_TRANSITIVE_CLOSURE, tally);
-    tally::line(b"get_bfs", GET_BFS, tally);
-    tally::line(b"get_dfs", GET_DFS, tally);
-    tally::line(b"get_dijkstra_from", GET_DIJKSTRA_FROM, tally);
-    tally::line(b"is_reachable", IS_REACHABLE, tally);
+    )?;
+    tally::line(rt, b"connected_components", CONNECTED_COMPONENTS, tally)?;
+    tally::line(rt, b"get_transitive_closure", GET_TRANSITIVE_CLOSURE, tally)?;
+    tally::line(rt, b"get_bfs", GET_BFS, tally)?;
+    tally::line(rt, b"get_dfs", GET_DFS, tally)?;
+    tally::line(rt, b"get_dijkstra_from", GET_DIJKSTRA_FROM, tally)?;
+    tally::line(rt, b"is_reachable", IS_REACHABLE, tally)?;
     tally::line(
+        rt,
         b"get_dijkstra_connections_with_cost",
         GET_DIJKSTRA_CONNECTIONS_WITH_COST,
         tally,
-    );
-    tally::line(b"random_walk", RANDOM_WALK, tally);
-    tally::all(tally);
+    )?;
+    tally::line(rt, b"random_walk", RANDOM_WALK, tally)?;
+    tally::all(rt, tally)
 }
 
-fn run(s: &[u8]) {
+fn run(rt: &impl Print, s: &[u8]) -> io::Result<()> {
     let mut t = [0u32; layout::SIZE];
     let mut out = [0u32; 131072];
     let mut tally = [0u32; 64];
     let end = records(s, &mut t, &mut out, &mut tally);
-    lines(&tally);
-    replay_tables::say_end(end);
+    lines(rt, &tally)?;
+    replay_tables::say_end(rt, end)
 }
 
-fn main() {
+fn main(rt: HostRuntime) -> io::Result<()> {
     let mut bytes = [0u8; 262144];
-    let n = replay_reading::file(&mut bytes);
-    run(&bytes[..n]);
+    let n = replay_reading::file(&rt, &mut bytes)?;
+    run(&rt, &bytes[..n])
 }

@@ -1,4 +1,6 @@
 // Tables made by recorded edits.
+#![tactic(auto)]
+
 ghost use Rattle.std.specs.Prelude.{◌≡◌};
 ghost use Rattle.replay.specs.Replayed.{left_by, vertex_added, hyperedge_added, hyperedge_updated, vertex_removed, hyperedge_removed, vertices_merged, table_summed, end_at, record_at};
 
@@ -6,13 +8,13 @@ use add_hyperedge::add_hyperedge;
 use add_vertex::add_vertex;
 use hypergraph::clear;
 use layout::{HyperedgeIndex, VertexIndex};
-use libc::STDOUT_FILENO;
 use merge_vertices::merge_vertices;
 use remove_hyperedge::remove_hyperedge;
 use remove_vertex::remove_vertex;
 use replay::tally::{compared, count, line};
 use replay_judge::{answer, at_most, sum, sum_of_bytes, summed};
 use replay_reading::{LOST, WHOLE, eight, four, list, word};
+use std::io;
 use update_hyperedge_vertices::update_hyperedge_vertices;
 
 fn vertex_added(s: &[u8], at: usize, t: &mut [u32], tally: &mut [u32]) -> usize
@@ -124,22 +126,21 @@ pub fn record(s: &[u8], kind: u32, at: usize, t: &mut [u32], tally: &mut [u32]) 
 }
 
 // The lines of the edits.
-pub fn lines(tally: &[u32]) {
-    line(b"add_vertex", 0, tally);
-    line(b"add_hyperedge", 1, tally);
-    line(b"update_hyperedge_vertices", 2, tally);
-    line(b"remove_vertex", 3, tally);
-    line(b"merge_vertices", 7, tally);
-    line(b"remove_hyperedge", 4, tally);
-    line(b"clear", 5, tally);
-    line(b"table by its sum", 6, tally);
+pub fn lines(rt: &impl Print, tally: &[u32]) -> io::Result<()> {
+    line(rt, b"add_vertex", 0, tally)?;
+    line(rt, b"add_hyperedge", 1, tally)?;
+    line(rt, b"update_hyperedge_vertices", 2, tally)?;
+    line(rt, b"remove_vertex", 3, tally)?;
+    line(rt, b"merge_vertices", 7, tally)?;
+    line(rt, b"remove_hyperedge", 4, tally)?;
+    line(rt, b"clear", 5, tally)?;
+    line(rt, b"table by its sum", 6, tally)
 }
 
 // The last line: whether the records were read to their end.
-pub fn say_end(at: usize) {
+pub fn say_end(rt: &impl Print, at: usize) -> io::Result<()> {
     if at == WHOLE {
-        io::write_all(STDOUT_FILENO, b"the records are whole\n");
-        return;
+        return println!(rt; "the records are whole");
     }
-    io::write_all(STDOUT_FILENO, b"the records are DAMAGED\n");
+    println!(rt; "the records are DAMAGED")
 }

@@ -1,4 +1,6 @@
 // A ring of the numbers below n along the steps that a matrix marks: from the lowest number on a closed walk back, till a number comes again.
+#![tactic(auto)]
+
 ghost use Rattle.std.specs.Prelude.{◌≡◌, true, ◌+◌, ◌<◌, ◌≤◌, length, take, drop};
 ghost use Rattle.graph.specs.Reach.{matrix};
 ghost use Rattle.graph.specs.Bfs.{bfs};

@@ -1,4 +1,6 @@
 // Whether a line is a frame, and whether what it says fits.
+#![tactic(auto)]
+
 ghost use Rattle.std.specs.Prelude.{◌≡◌, ◌+◌, ◌*◌, ◌≤◌, length};
 ghost use Rattle.frames.specs.Frames.{vertex_length};
 ghost use Rattle.frames.specs.Reading.{stands_at};

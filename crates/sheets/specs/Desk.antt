@@ -89,8 +89,8 @@ abbrev pub accepted : DeskCase
 accepted = hands Two (0 ∷ 1 ∷ 2 ∷ []) (Done 0)
 
 -- 0 has a step to the earlier 1; 0 again; 9 is not live; one short; none at all; a step to itself
-abbrev pub step_back_lem : DeskCase
-step_back_lem = hands Two (1 ∷ 0 ∷ 2 ∷ []) (BadOrder 1)
+abbrev pub step_back : DeskCase
+step_back = hands Two (1 ∷ 0 ∷ 2 ∷ []) (BadOrder 1)
 
 abbrev pub repeated : DeskCase
 repeated = hands Two (0 ∷ 1 ∷ 0 ∷ 2 ∷ []) (BadOrder 2)
@@ -126,5 +126,5 @@ abbrev pub at_desk : List DeskCase
 at_desk =
     not-reviewed ∷ a-review ∷ too-early ∷ missing ∷ first-released ∷ next-released ∷ again-released ∷ stays-released
     ∷ shown-reviewed ∷ shown-releasable ∷ lowest-held ∷ other-held ∷ holds-itself
-    ∷ accepted ∷ step_back_lem ∷ repeated ∷ not_live ∷ one-short ∷ nothing-listed ∷ step-to-itself
+    ∷ accepted ∷ step_back ∷ repeated ∷ not_live ∷ one-short ∷ nothing-listed ∷ step-to-itself
     ∷ no-state ∷ no-vertex ∷ word-too-few ∷ []

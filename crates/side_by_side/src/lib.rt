@@ -1,4 +1,6 @@
 // Two vertices that stand side by side in a list.
+#![tactic(auto)]
+
 ghost use Rattle.std.specs.Prelude.{◌≡◌, ◌<◌};
 ghost use Rattle.layout.specs.Layout.{limit, hyperedge_count, hyperedge_at, read_hyperedges};
 ghost use Rattle.layout.specs.Inner.{Formed};

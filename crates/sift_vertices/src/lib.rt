@@ -1,4 +1,6 @@
 // The vertex records that have no mark, moved together. `old` is the table as it stood: it is read, and t is written.
+#![tactic(auto)]
+
 ghost use Rattle.std.specs.Prelude.{◌≡◌, ◌<◌, ◌≤◌, length};
 ghost use Rattle.layout.specs.Layout.{limit, vertex_limit, size, vertex_count, vertex_at};
 ghost use Rattle.edits.specs.Removing.{with_vertices};

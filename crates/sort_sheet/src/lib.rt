@@ -1,10 +1,14 @@
 // The sheet that a clerk is given: the sort of a frame text, or why there is none.
+#![tactic(auto)]
+
 ghost use Rattle.std.specs.Prelude.{◌≡◌, eqb, length};
 ghost use Rattle.layout.specs.Layout.{limit, size};
 ghost use Rattle.layout.specs.Answers.{number, result_of};
 ghost use Rattle.sort_sheet.specs.Sheet.{sheet_result};
 
 use layout::Answer;
+use std::io;
+use std::io::Write;
 
 fn is_done(a: Answer) -> bool
     ensures { result ≡ eqb (number a) 0 }
@@ -33,40 +37,43 @@ fn sort_text(text: &[u8], order: &mut [u32]) -> Answer
 }
 
 // One number and a line feed.
-fn print_line(out: i32, x: u64) {
-    io::print_decimal(out, x);
-    io::write_all(out, b"\n");
+fn print_line<W: Write>(out: &mut W, x: u64) -> io::Result<()> {
+    writeln!(out, "{x}")
 }
 
-fn print_number(out: i32, x: u32) {
-    print_line(out, x as u64);
+fn print_number<W: Write>(out: &mut W, x: u32) -> io::Result<()> {
+    print_line(out, x as u64)
 }
 
 // The first n numbers, one a line.
-fn print_lines(out: i32, order: &[u32; layout::VERTEX_LIMIT], n: usize) {
+fn print_lines<W: Write>(
+    out: &mut W,
+    order: &[u32; layout::VERTEX_LIMIT],
+    n: usize,
+) -> io::Result<()> {
     let mut i = 0;
     while i < n {
         if i < layout::VERTEX_LIMIT {
-            print_number(out, order[i]);
+            print_number(out, order[i])?;
         }
         i += 1;
     }
+    Ok(())
 }
 
 // One line such as `refused 9`; for a faulty text also the line, to `err`.
-fn print_refusal(out: i32, err: i32, a: Answer) {
+fn print_refusal<W: Write, E: Write>(out: &mut W, err: &mut E, a: Answer) -> io::Result<()> {
     let r = layout::reply_of(a);
-    io::write_all(out, b"refused ");
-    print_line(out, r.number as u64);
+    write!(out, "refused ")?;
+    print_line(out, r.number as u64)?;
     if r.number == 12 {
-        io::write_all(err, b"line ");
-        io::print_decimal(err, r.detail);
-        io::write_all(err, b" is faulty\n");
+        writeln!(err, "line {} is faulty", r.detail)?;
     }
+    Ok(())
 }
 
 // Prints the sort of the text, one decimal number a line, or one line such as `refused 9`.
-pub fn print_sheet(out: i32, err: i32, text: &[u8]) {
+pub fn print_sheet<W: Write, E: Write>(out: &mut W, err: &mut E, text: &[u8]) -> io::Result<()> {
     let mut order = [0u32; layout::VERTEX_LIMIT];
     let a = sort_text(text, &mut order);
     match a {

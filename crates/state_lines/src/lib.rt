@@ -1,4 +1,6 @@
 // What a line of a text of states says.
+#![tactic(auto)]
+
 ghost use Rattle.std.specs.Prelude.{◌≡◌, ◌-◌, ◌≤◌, length, take};
 ghost use Rattle.lists.specs.Lists.{same_list};
 ghost use Rattle.states_text.specs.StatesText.{state_line};

@@ -1,4 +1,6 @@
 // The sheets of a review and of releases, by the states before. Plain has none.
+#![tactic(auto)]
+
 ghost use Rattle.std.specs.Prelude.{◌≡◌, cond, [], length};
 ghost use Rattle.layout.specs.Layout.{limit, vertex_limit, read};
 ghost use Rattle.layout.specs.Inner.{Formed};

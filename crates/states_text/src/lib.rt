@@ -1,1 +1,2 @@
 // The definitions and laws of the states as a text.
+#![tactic(auto)]

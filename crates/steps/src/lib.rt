@@ -1,4 +1,6 @@
 // From a table to a matrix of marks by record: its steps, its turned steps, and its steps without direction; and from records back to numbers.
+#![tactic(auto)]
+
 ghost use Rattle.std.specs.Prelude.{◌≡◌, true, map, ◌<◌, ◌+◌, ◌≤◌, length, take};
 ghost use Rattle.lists.specs.Lists.{over};
 ghost use Rattle.layout.specs.declared.Found.TheVariants.{At};

@@ -1,4 +1,6 @@
 // The strong components of a matrix of steps: each record's class, by roots of which the latest finished comes first.
+#![tactic(auto)]
+
 ghost use Rattle.std.specs.Prelude.{◌≡◌, [], ◌<◌, ◌≤◌, length, take};
 ghost use Rattle.layout.specs.Layout.{vertex_limit};
 ghost use Rattle.graph.specs.Reach.{matrix};

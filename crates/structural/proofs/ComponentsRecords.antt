@@ -20,7 +20,7 @@ module _ (f : ℕ → ℕ) {n : ℕ} (rises : (i j : ℕ) → i < j → j < n �
     (R Before : ℕ → ℕ → Type 0) {cs : List (List ℕ)} (h : Components (is_below n) (λ i j. R (f i) (f j)) (λ i j. Before (f i) (f j)) cs) where
   module _ (k : ℕ) where
     at : get_or (map (map f) cs) k [] ≡ map f (get_or cs k [])
-    at = ListN.get_d_map (map f) cs k []
+    at = ListN.get_or-map (map f) cs k []
 
     within : k < length (map (map f) cs) → k < length cs
     within l = rw map-length at l

@@ -1,4 +1,6 @@
 // Where the lines of a text begin and end.
+#![tactic(auto)]
+
 ghost use Rattle.std.specs.Prelude.{◌≡◌, ◌≤◌, length};
 ghost use Rattle.text_lines.specs.Lines.{Ends, Begins, Stands, ends_in_cr_lf};
 

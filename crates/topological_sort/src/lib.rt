@@ -1,4 +1,6 @@
 // The sort, and whether there is one.
+#![tactic(auto)]
+
 ghost use Rattle.std.specs.Prelude.{◌≡◌, []};
 ghost use Rattle.layout.specs.Layout.{limit, read};
 ghost use Rattle.layout.specs.Inner.{Formed};

@@ -1,4 +1,6 @@
 // Traversal: breadth first and depth first from a vertex, and whether one vertex is reached from another.
+#![tactic(auto)]
+
 ghost use Rattle.std.specs.Prelude.{◌≡◌, [], ◌<◌};
 ghost use Rattle.lists.specs.Tests.{bit};
 ghost use Rattle.lists.specs.Lists.{memb};

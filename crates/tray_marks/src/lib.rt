@@ -1,4 +1,6 @@
 // The records of a tray, judged one after the other against a table, and a mark on what each names.
+#![tactic(auto)]
+
 ghost use Rattle.std.specs.Prelude.{◌≡◌};
 ghost use Rattle.layout.specs.Content.{live_vertices, live_hyperedges, position};
 ghost use Rattle.layout.specs.Layout.{limit, read};

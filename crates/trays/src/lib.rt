@@ -1,4 +1,5 @@
 // Trays: lists of records, each a kind and a number.
+#![tactic(auto)]
 
 // The kinds of a record.
 pub const VERTEX_KIND: u32 = 0;

@@ -1,4 +1,6 @@
 // Giving a hyperedge another list.
+#![tactic(auto)]
+
 ghost use Rattle.std.specs.Prelude.{◌≡◌, ◌<◌, ◌≤◌, length};
 ghost use Rattle.layout.specs.declared.Found.TheVariants.{At};
 ghost use Rattle.layout.specs.Content.{live_hyperedges, position};

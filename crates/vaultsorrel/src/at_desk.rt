@@ -1,4 +1,5 @@
-// The C interface of the release desk: each function calls the entry point of its name and gives its answer as number and detail.
+// What the C interface offers of the release desk: each function calls the entry point of its name and gives its answer as number and
+// detail.
 ghost use Rattle.std.specs.Prelude.{◌≡◌, []};
 ghost use Rattle.removals.specs.Removals.{vertex, hyperedge};
 ghost use Rattle.calls.specs.Calls.{add_vertex, add_hyperedge, update, merge, remove, withdraw};
@@ -13,27 +14,19 @@ use trays::Withdrawal;
 // ---- Edits: the answer and the table are those of the edit, and the states follow their vertices
 
 // Adds a vertex with the next number, which waits.
-#[unsafe(no_mangle)]
-pub extern "C" fn vs_desk_add_vertex(t: &mut [u32], s: &mut [u32], weight: u32) -> Reply
+pub fn vs_desk_add_vertex(t: &mut [u32], s: &mut [u32], weight: u32) -> Reply
     ensures { replied_at result (desk_of t.new s.new) ≡ desk_edit (add_vertex weight) (desk_of t.old s.old) }
 {
     layout::reply_of(desk_edits::desk_add_vertex(t, s, weight))
 }
 
-#[unsafe(no_mangle)]
-pub extern "C" fn vs_desk_add_hyperedge(
-    t: &mut [u32],
-    s: &mut [u32],
-    members: &[u32],
-    weight: u32,
-) -> Reply
+pub fn vs_desk_add_hyperedge(t: &mut [u32], s: &mut [u32], members: &[u32], weight: u32) -> Reply
     ensures { replied_at result (desk_of t.new s.new) ≡ desk_edit (add_hyperedge members.now weight) (desk_of t.old s.old) }
 {
     layout::reply_of(desk_edits::desk_add_hyperedge(t, s, members, weight))
 }
 
-#[unsafe(no_mangle)]
-pub extern "C" fn vs_desk_update_hyperedge_vertices(
+pub fn vs_desk_update_hyperedge_vertices(
     t: &mut [u32],
     s: &mut [u32],
     e: HyperedgeIndex,
@@ -45,55 +38,40 @@ pub extern "C" fn vs_desk_update_hyperedge_vertices(
 }
 
 // Removes the vertex, which loses its state.
-#[unsafe(no_mangle)]
-pub extern "C" fn vs_desk_remove_vertex(t: &mut [u32], s: &mut [u32], v: VertexIndex) -> Reply
+pub fn vs_desk_remove_vertex(t: &mut [u32], s: &mut [u32], v: VertexIndex) -> Reply
     ensures { replied_at result (desk_of t.new s.new) ≡ desk_edit (remove (vertex v.0)) (desk_of t.old s.old) }
 {
     layout::reply_of(desk_removals::desk_remove_vertex(t, s, v))
 }
 
-#[unsafe(no_mangle)]
-pub extern "C" fn vs_desk_remove_hyperedge(t: &mut [u32], s: &mut [u32], e: HyperedgeIndex) -> Reply
+pub fn vs_desk_remove_hyperedge(t: &mut [u32], s: &mut [u32], e: HyperedgeIndex) -> Reply
     ensures { replied_at result (desk_of t.new s.new) ≡ desk_edit (remove (hyperedge e.0)) (desk_of t.old s.old) }
 {
     layout::reply_of(desk_edits::desk_remove_hyperedge(t, s, e))
 }
 
 // Merges w into v: w loses its state, v keeps its own.
-#[unsafe(no_mangle)]
-pub extern "C" fn vs_desk_merge_vertices(
-    t: &mut [u32],
-    s: &mut [u32],
-    v: VertexIndex,
-    w: VertexIndex,
-) -> Reply
+pub fn vs_desk_merge_vertices(t: &mut [u32], s: &mut [u32], v: VertexIndex, w: VertexIndex) -> Reply
     ensures { replied_at result (desk_of t.new s.new) ≡ desk_edit (merge v.0 w.0) (desk_of t.old s.old) }
 {
     layout::reply_of(desk_removals::desk_merge_vertices(t, s, v, w))
 }
 
-#[unsafe(no_mangle)]
-pub extern "C" fn vs_desk_withdraw_tray(
-    t: &mut [u32],
-    s: &mut [u32],
-    records: &[Withdrawal],
-) -> Reply
+pub fn vs_desk_withdraw_tray(t: &mut [u32], s: &mut [u32], records: &[Withdrawal]) -> Reply
     ensures { replied_at result (desk_of t.new s.new) ≡ desk_edit (withdraw records.now) (desk_of t.old s.old) }
 {
     layout::reply_of(desk_tray::desk_withdraw_tray(t, s, records))
 }
 
 // Zeroes every word of the table, and every state.
-#[unsafe(no_mangle)]
-pub extern "C" fn vs_desk_clear(t: &mut [u32], s: &mut [u32]) -> Reply
+pub fn vs_desk_clear(t: &mut [u32], s: &mut [u32]) -> Reply
     ensures { replied_at result (desk_of t.new s.new) ≡ desk_clear (desk_of t.old s.old) }
 {
     layout::reply_of(desk_anew::desk_clear(t, s))
 }
 
 // Reads frame text into the table; where it is read, every state is zeroed.
-#[unsafe(no_mangle)]
-pub extern "C" fn vs_desk_read_frames(t: &mut [u32], s: &mut [u32], text: &[u8]) -> Reply
+pub fn vs_desk_read_frames(t: &mut [u32], s: &mut [u32], text: &[u8]) -> Reply
     ensures { replied_at result (desk_of t.new s.new) ≡ desk_read text.now (desk_of t.old s.old) }
 {
     layout::reply_of(desk_anew::desk_read_frames(t, s, text))
@@ -102,24 +80,21 @@ pub extern "C" fn vs_desk_read_frames(t: &mut [u32], s: &mut [u32], text: &[u8])
 // ---- Review and release
 
 // A waiting vertex becomes reviewed, another stays as it is.
-#[unsafe(no_mangle)]
-pub extern "C" fn vs_desk_review(t: &[u32], s: &mut [u32], v: VertexIndex) -> Reply
+pub fn vs_desk_review(t: &[u32], s: &mut [u32], v: VertexIndex) -> Reply
     ensures { replied result s.new ≡ on_desk (desk_of t.now s.old) s.old (review_result v.0 s.old) }
 {
     layout::reply_of(desk_review::desk_review(t, s, v))
 }
 
 // Releases the vertex where it is reviewed and every vertex with a step into it is released.
-#[unsafe(no_mangle)]
-pub extern "C" fn vs_desk_release(t: &[u32], s: &mut [u32], v: VertexIndex) -> Reply
+pub fn vs_desk_release(t: &[u32], s: &mut [u32], v: VertexIndex) -> Reply
     ensures { replied result s.new ≡ on_desk (desk_of t.now s.old) s.old (release_result v.0 s.old) }
 {
     layout::reply_of(desk_release::desk_release(t, s, v))
 }
 
 // Accepts an order that lists every live vertex once, every step forward.
-#[unsafe(no_mangle)]
-pub extern "C" fn vs_desk_accept_order(t: &[u32], s: &[u32], order: &[u32]) -> Reply
+pub fn vs_desk_accept_order(t: &[u32], s: &[u32], order: &[u32]) -> Reply
     ensures { replied result [] ≡ on_desk (desk_of t.now s.now) [] (accept_result order.now) }
 {
     layout::reply_of(desk_order::desk_accept_order(t, s, order))
@@ -128,24 +103,21 @@ pub extern "C" fn vs_desk_accept_order(t: &[u32], s: &[u32], order: &[u32]) -> R
 // ---- Looking
 
 // The state of the vertex, as the detail.
-#[unsafe(no_mangle)]
-pub extern "C" fn vs_desk_state(t: &[u32], s: &[u32], v: VertexIndex) -> Reply
+pub fn vs_desk_state(t: &[u32], s: &[u32], v: VertexIndex) -> Reply
     ensures { replied result [] ≡ on_desk (desk_of t.now s.now) [] (state_result v.0 s.now) }
 {
     layout::reply_of(desk_looks::desk_state(t, s, v))
 }
 
 // The vertices in the state.
-#[unsafe(no_mangle)]
-pub extern "C" fn vs_desk_list(t: &[u32], s: &[u32], state: u32, out: &mut [u32]) -> Reply
+pub fn vs_desk_list(t: &[u32], s: &[u32], state: u32, out: &mut [u32]) -> Reply
     ensures { replied result out.new ≡ on_desk (desk_of t.now s.now) out.old (list_result state s.now out.old) }
 {
     layout::reply_of(desk_looks::desk_list(t, s, state, out))
 }
 
 // The vertices that a release would release now.
-#[unsafe(no_mangle)]
-pub extern "C" fn vs_desk_releasable(t: &[u32], s: &[u32], out: &mut [u32]) -> Reply
+pub fn vs_desk_releasable(t: &[u32], s: &[u32], out: &mut [u32]) -> Reply
     ensures { replied result out.new ≡ on_desk (desk_of t.now s.now) out.old (releasable_result s.now out.old) }
 {
     layout::reply_of(desk_releasable::desk_releasable(t, s, out))

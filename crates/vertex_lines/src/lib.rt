@@ -1,4 +1,6 @@
 // The lines of vertices.
+#![tactic(auto)]
+
 ghost use Rattle.std.specs.Prelude.{◌≡◌, ◌≤◌, length};
 ghost use Rattle.layout.specs.Layout.{limit, size, vertex_limit};
 ghost use Rattle.frames.specs.Frames.{head_length};

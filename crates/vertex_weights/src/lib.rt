@@ -1,4 +1,6 @@
 // Vertices by weight.
+#![tactic(auto)]
+
 ghost use Rattle.std.specs.Prelude.{◌≡◌, [], ℕ, ◌<◌};
 ghost use Rattle.layout.specs.Layout.{limit, vertex_count, read};
 ghost use Rattle.layout.specs.Inner.{Formed};

@@ -1,4 +1,6 @@
 // The draws of the random walk, and where it stands.
+#![tactic(auto)]
+
 ghost use Rattle.std.specs.Prelude.{◌≡◌, ◌^◌, ◌≤◌};
 ghost use Rattle.std.specs.Float.Ieee.{lt};
 ghost use Rattle.walk.specs.Walk.{xorshift, float, sample};

@@ -1,4 +1,6 @@
 // The steps of a walk.
+#![tactic(auto)]
+
 ghost use Rattle.std.specs.Prelude.{◌≡◌, ◌≤◌, length};
 ghost use Rattle.lists.specs.Lists.{over};
 ghost use Rattle.layout.specs.Content.{live_vertices, position};

@@ -1,4 +1,6 @@
 // Whether a table is well formed.
+#![tactic(auto)]
+
 ghost use Rattle.std.specs.Prelude.{◌≡◌, true, ◌<◌, ◌≤◌, length};
 ghost use Rattle.lists.specs.Tests.{every};
 ghost use Rattle.layout.specs.Content.{numbered, valid};

@@ -1,4 +1,6 @@
 // The marked records taken out of a table, and the gaps closed once. `old` is the table as it stood: it is read, and t is written.
+#![tactic(auto)]
+
 ghost use Rattle.std.specs.Prelude.{◌≡◌, ◌+◌, ◌<◌, ◌≤◌, length};
 ghost use Rattle.std.proofs.Math.Seq.{paste};
 ghost use Rattle.layout.specs.Layout.{limit, hyperedge_count, read, words};

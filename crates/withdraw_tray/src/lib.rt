@@ -1,4 +1,6 @@
 // Withdrawing a tray: thin functions over the lent list of records, above covered ones.
+#![tactic(auto)]
+
 ghost use Rattle.std.specs.Prelude.{◌≡◌};
 ghost use Rattle.layout.specs.Answers.{on_formed, result_of};
 ghost use Rattle.trays.specs.Trays.{tray_result};

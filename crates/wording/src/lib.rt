@@ -1,5 +1,7 @@
 // Texts, numbers and forms written on a page: a lent slice of bytes, and the place where the next byte goes. What no longer fits is not
 // written, and the place stays at the end of the slice.
+#![tactic(auto)]
+
 ghost use Rattle.std.specs.Prelude.{◌≡◌, ◌<◌};
 ghost use Rattle.lists.specs.Lists.{word_at};
 ghost use Rattle.wording.specs.Texts.{decimal};

@@ -1,4 +1,6 @@
 // Rows, numbers in a line and lists, written on a page.
+#![tactic(auto)]
+
 ghost use Rattle.std.specs.Prelude.{◌≡◌, ◌+◌, ◌*◌, ◌<◌, ◌≤◌, length, drop};
 ghost use Rattle.lists.specs.Lists.{flat};
 ghost use Rattle.wording.specs.Pages.{page, write};

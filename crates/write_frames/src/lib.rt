@@ -1,4 +1,6 @@
 // A table written as text.
+#![tactic(auto)]
+
 ghost use Rattle.std.specs.Prelude.{◌≡◌, ◌+◌, ◌*◌, ◌<◌, ◌≤◌, length};
 ghost use Rattle.lists.specs.Lists.{tab, flat};
 ghost use Rattle.layout.specs.Layout.{limit, vertex_limit, size, hyperedge_count, vertex_at, hyperedge_at, read};

@@ -1,0 +1,20 @@
+-- `add_hyperedge::find_identical` meets its contract: what is left of the search is the whole of it. Assumes nothing.
+use mathlib.Core.Path.{refl}
+use Prim.Native.Nat.{◌-◌}
+use Rattle.edits.specs.Results.{first_passing}
+use Rattle.edits.proofs.Passing.{passing-on, passing-here, passing-none}
+use borrow.Author.Rules.{rules}
+use Rattle.add_hyperedge.proofs.find_identical.Goals as goal
+
+pub loop-j-init : goal.loop-j-init
+unfolding first_passing
+loop-j-init c = (search rules, search rules, refl)
+
+pub returns-then-is_identical : goal.returns-then-is_identical
+returns-then-is_identical c = search passing-here
+
+pub loop-j-preserved : goal.loop-j-preserved
+loop-j-preserved c = (search rules, search rules, search passing-on)
+
+pub returns : goal.returns
+returns c = search passing-none

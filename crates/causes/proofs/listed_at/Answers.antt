@@ -1,0 +1,6 @@
+-- `causes::listed_at` meets its contract. Assumes nothing.
+use Rattle.wording.proofs.Filled.{word_none}
+use Rattle.causes.proofs.listed_at.Goals as goal
+
+pub returns : goal.returns
+returns c = search word_none

@@ -1,0 +1,10 @@
+-- `desk_edits::desk_update_hyperedge_vertices` meets its contract. Assumes nothing.
+use Rattle.desk_states.proofs.Removed.{edit-shut}
+use Rattle.desk_edits.proofs.Kept.{hyperedge-updated}
+use Rattle.desk_edits.proofs.desk_update_hyperedge_vertices.Goals as goal
+
+pub returns-then-not-is_open : goal.returns-then-not-is_open
+returns-then-not-is_open c = search edit-shut
+
+pub returns : goal.returns
+returns c = search hyperedge-updated

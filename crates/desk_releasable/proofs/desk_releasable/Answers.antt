@@ -1,0 +1,12 @@
+-- `desk_releasable::desk_releasable` meets its contract. Assumes nothing.
+use Rattle.desk_fits.proofs.Fits.{formed-by-desk, long-by-desk, on-misfit, on-desk}
+use Rattle.desk_releasable.proofs.desk_releasable.Goals as goal
+
+pub returns-then-not-desk_fits : goal.returns-then-not-desk_fits
+returns-then-not-desk_fits c = search on-misfit
+
+pub releasable_formed-requires : goal.releasable_formed-requires
+releasable_formed-requires c = record { formed = search formed-by-desk; s_len = search long-by-desk }
+
+pub returns : goal.returns
+returns c = search on-desk

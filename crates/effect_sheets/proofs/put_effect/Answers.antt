@@ -1,0 +1,13 @@
+-- `effect_sheets::put_effect` meets its contract. Assumes nothing.
+use Rattle.effect_sheets.proofs.Effects.{gone-put, found_within, found-put}
+use borrow.Author.Rules.{rules}
+use Rattle.effect_sheets.proofs.put_effect.Goals as goal
+
+pub members_formed-members-requires : goal.members_formed-members-requires
+members_formed-members-requires c = record { formed = search rules; j_bound = search found_within }
+
+pub returns-in-Nothing : goal.returns-in-Nothing
+returns-in-Nothing c = search gone-put
+
+pub returns-in-At : goal.returns-in-At
+returns-in-At c = search found-put

@@ -1,0 +1,9 @@
+-- `entry_sheets::say_tube` meets its contract. Assumes nothing.
+use Rattle.entry_sheets.proofs.Entries.{number_put, tube-words}
+use Rattle.entry_sheets.proofs.say_tube.Goals as goal
+
+pub returns-then-plain : goal.returns-then-plain
+returns-then-plain c = search number_put
+
+pub returns : goal.returns
+returns c = search tube-words

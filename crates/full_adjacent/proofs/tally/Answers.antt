@@ -1,0 +1,25 @@
+-- `full_adjacent::tally` meets its contract. Assumes nothing.
+use Prim.Native.Nat.{◌<◌, ◌≤◌}
+use native.Mathlib.Omega.{arith}
+use lib.ListN.{get_or}
+use Rattle.lookups.specs.State.{listing_most}
+use Rattle.lookups.proofs.Tally.{tally-none, tally-one, tally-in, tally-most}
+use Rattle.full_adjacent.proofs.tally.Goals as goal
+
+pub offset_bounds-counts-k : goal.offset_bounds-counts-k
+offset_bounds-counts-k c = let within : c.in-At.k < 256 = search tally-in in omega (arith, within)
+
+pub bounds-counts-k : goal.bounds-counts-k
+bounds-counts-k c = let within : c.in-At.k < 256 = search tally-in in within
+
+pub overflow_add-counts : goal.overflow_add-counts
+overflow_add-counts c = let most : get_or c.args.counts.now c.in-At.k 0 ≤ listing_most = search tally-most in omega (arith, most)
+
+pub bounds-counts-k-in-At : goal.bounds-counts-k-in-At
+bounds-counts-k-in-At c = let within : c.in-At.k < 256 = search tally-in in within
+
+pub returns-in-Nothing : goal.returns-in-Nothing
+returns-in-Nothing c = search tally-none
+
+pub returns-in-At : goal.returns-in-At
+returns-in-At c = search tally-one

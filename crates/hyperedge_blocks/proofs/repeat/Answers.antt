@@ -1,0 +1,18 @@
+-- `hyperedge_blocks::repeat` meets its contract. Assumes nothing.
+use Prim.Native.Nat.{◌-◌}
+use native.Mathlib.Omega.{arith}
+use Rattle.lookups.proofs.Laid.{copied_none, repeated-more, repeated-end}
+use borrow.Author.Rules.{rules}
+use Rattle.hyperedge_blocks.proofs.repeat.Goals as goal
+
+pub loop-i-init : goal.loop-i-init
+loop-i-init c = (search rules, copied_none _ _)
+
+pub loop-i-preserved : goal.loop-i-preserved
+loop-i-preserved c = (omega arith, repeated-more _ _ c.loop-i.invariant.1 c.loop-i-test.true c.requires)
+
+pub shape_of-out : goal.shape_of-out
+shape_of-out c = c.loop-i.invariant.1.same
+
+pub returns : goal.returns
+returns c = repeated-end _ _ c.loop-i.invariant.1 c.loop-i-test.false

@@ -1,0 +1,12 @@
+-- `remove_vertex::remove_vertex` meets its contract. Assumes nothing.
+use Rattle.layout.proofs.Answers.{formed-by, on-unformed, on-formed}
+use Rattle.remove_vertex.proofs.remove_vertex.Goals as goal
+
+pub returns-then-not-well_formed : goal.returns-then-not-well_formed
+returns-then-not-well_formed c = search on-unformed
+
+pub remove_formed-requires : goal.remove_formed-requires
+remove_formed-requires c = search formed-by
+
+pub returns : goal.returns
+returns c = search on-formed

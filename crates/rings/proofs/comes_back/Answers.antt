@@ -1,0 +1,6 @@
+-- `rings::comes_back_lem` meets its contract. Assumes nothing.
+use Rattle.rings.proofs.Back.{tested}
+use Rattle.rings.proofs.comes_back.Goals as goal
+
+pub returns : goal.returns
+returns c = search tested

@@ -1,0 +1,9 @@
+-- `strong::reach_within` meets its contract. Assumes nothing.
+use Rattle.graph.proofs.Held.{held_none}
+use Rattle.strong.proofs.reach_within.Goals as goal
+
+pub serve-requires : goal.serve-requires
+serve-requires c = (c.requires.0, c.requires.1, held_none c.args.n c.requires.0)
+
+pub returns : goal.returns
+returns c = c.serve.ensures.marks

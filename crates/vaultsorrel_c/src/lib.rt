@@ -1,0 +1,477 @@
+// The C interface: each function is exported under its name, and calls the function of that name of the library vaultsorrel.
+#![tactic(auto)]
+
+ghost use Rattle.std.specs.Prelude.{◌≡◌, []};
+ghost use Rattle.layout.specs.Answers.{on_formed};
+ghost use Rattle.edits.specs.Results.{add_vertex_result, add_hyperedge_result, update_result, remove_vertex_result, merge_result, remove_hyperedge_result, clear_result, empty_result};
+ghost use Rattle.trays.specs.Trays.{tray_result};
+ghost use Rattle.vaultsorrel.specs.Replies.{replied};
+ghost use Rattle.lookups.specs.Results.{related_result, full_adjacent_result, degree_result, connecting_result, intersections_result, weighing_result, full_hyperedges_result, contains_result, vertex_index_result};
+ghost use Rattle.reads.specs.Reads.{vertex_weight_result, hyperedge_weight_result, members_result, vertices_result, hyperedges_result};
+ghost use Rattle.lookups.specs.declared.Direction.TheVariants.{From, To};
+ghost use Rattle.lookups.specs.declared.Relation.TheVariants.{Along, Around};
+ghost use Rattle.traversal.specs.Traversal.{traversal_result, reachable_result};
+ghost use Rattle.traversal.specs.declared.Order.TheVariants.{BreadthFirst, DepthFirst};
+ghost use Rattle.reached_vertices.specs.Reached.{reached_result};
+ghost use Rattle.structural.specs.Components.{connected_result, strong_components_result, connected_components_result};
+ghost use Rattle.structural.specs.Sort.{acyclic_result, sort_result};
+ghost use Rattle.structural.specs.Closure.{closure_result};
+ghost use Rattle.properties.specs.Results.{orphan_vertices_result, orphan_hyperedges_result, endpoints_result, inclusions_result, nestedness_result, uniform_result};
+ghost use Rattle.cut.specs.Cut.{cut_vertices_result};
+ghost use Rattle.paths.specs.Paths.{pair_result, from_result};
+ghost use Rattle.walk.specs.Walk.{walk_result};
+ghost use Rattle.frames.specs.Frames.{write_result};
+ghost use Rattle.frames.specs.Reading.{read_result};
+
+use layout::{HyperedgeIndex, Reply, VertexIndex};
+use trays::Withdrawal;
+
+pub mod at_desk;
+
+// ---- Edits
+
+// Adds a vertex with the next number, which the answer tells.
+#[unsafe(no_mangle)]
+pub extern "C" fn vs_add_vertex(t: &mut [u32], weight: u32) -> Reply
+    ensures { replied result t.new ≡ on_formed t.old t.old (add_vertex_result weight t.old) }
+{
+    vaultsorrel::vs_add_vertex(t, weight)
+}
+
+// Adds a hyperedge with the next number, or finds the first identical one; the answer tells the number.
+#[unsafe(no_mangle)]
+pub extern "C" fn vs_add_hyperedge(t: &mut [u32], members: &[u32], weight: u32) -> Reply
+    ensures { replied result t.new ≡ on_formed t.old t.old (add_hyperedge_result members.now weight t.old) }
+{
+    vaultsorrel::vs_add_hyperedge(t, members, weight)
+}
+
+// Gives the hyperedge the new member list; its weight stays.
+#[unsafe(no_mangle)]
+pub extern "C" fn vs_update_hyperedge_vertices(
+    t: &mut [u32],
+    e: HyperedgeIndex,
+    members: &[u32],
+) -> Reply
+    ensures { replied result t.new ≡ on_formed t.old t.old (update_result e.0 members.now t.old) }
+{
+    vaultsorrel::vs_update_hyperedge_vertices(t, e, members)
+}
+
+#[unsafe(no_mangle)]
+pub extern "C" fn vs_remove_vertex(t: &mut [u32], v: VertexIndex) -> Reply
+    ensures { replied result t.new ≡ on_formed t.old t.old (remove_vertex_result v.0 t.old) }
+{
+    vaultsorrel::vs_remove_vertex(t, v)
+}
+
+// Merges w into v: each w in every list becomes v, and w is removed.
+#[unsafe(no_mangle)]
+pub extern "C" fn vs_merge_vertices(t: &mut [u32], v: VertexIndex, w: VertexIndex) -> Reply
+    ensures { replied result t.new ≡ on_formed t.old t.old (merge_result v.0 w.0 t.old) }
+{
+    vaultsorrel::vs_merge_vertices(t, v, w)
+}
+
+#[unsafe(no_mangle)]
+pub extern "C" fn vs_remove_hyperedge(t: &mut [u32], e: HyperedgeIndex) -> Reply
+    ensures { replied result t.new ≡ on_formed t.old t.old (remove_hyperedge_result e.0 t.old) }
+{
+    vaultsorrel::vs_remove_hyperedge(t, e)
+}
+
+// Withdraws every vertex and hyperedge that the records name, or none.
+#[unsafe(no_mangle)]
+pub extern "C" fn vs_withdraw_tray(t: &mut [u32], records: &[Withdrawal]) -> Reply
+    ensures { replied result t.new ≡ on_formed t.old t.old (tray_result records.now t.old) }
+{
+    vaultsorrel::vs_withdraw_tray(t, records)
+}
+
+// Zeroes every word.
+#[unsafe(no_mangle)]
+pub extern "C" fn vs_clear(t: &mut [u32]) -> Reply
+    ensures { replied result t.new ≡ clear_result t.old }
+{
+    vaultsorrel::vs_clear(t)
+}
+
+// Whether no vertex is live: then no hyperedge is either.
+#[unsafe(no_mangle)]
+pub extern "C" fn vs_is_empty(t: &[u32]) -> Reply
+    ensures { replied result [] ≡ on_formed t.now [] empty_result }
+{
+    vaultsorrel::vs_is_empty(t)
+}
+
+// ---- Lookups
+
+// The vertices that a step from the vertex leads to.
+#[unsafe(no_mangle)]
+pub extern "C" fn vs_get_adjacent_vertices_from(t: &[u32], v: VertexIndex, out: &mut [u32]) -> Reply
+    ensures { replied result out.new ≡ on_formed t.now out.old (related_result (Along From) v.0 out.old) }
+{
+    vaultsorrel::vs_get_adjacent_vertices_from(t, v, out)
+}
+
+// The vertices from which a step leads to the vertex.
+#[unsafe(no_mangle)]
+pub extern "C" fn vs_get_adjacent_vertices_to(t: &[u32], v: VertexIndex, out: &mut [u32]) -> Reply
+    ensures { replied result out.new ≡ on_formed t.now out.old (related_result (Along To) v.0 out.old) }
+{
+    vaultsorrel::vs_get_adjacent_vertices_to(t, v, out)
+}
+
+// The vertices that a step from the vertex leads to, each with the hyperedges that step there.
+#[unsafe(no_mangle)]
+pub extern "C" fn vs_get_full_adjacent_vertices_from(
+    t: &[u32],
+    v: VertexIndex,
+    out: &mut [u32],
+) -> Reply
+    ensures { replied result out.new ≡ on_formed t.now out.old (full_adjacent_result From v.0 out.old) }
+{
+    vaultsorrel::vs_get_full_adjacent_vertices_from(t, v, out)
+}
+
+// The vertices from which a step leads to the vertex, each with the hyperedges that step so.
+#[unsafe(no_mangle)]
+pub extern "C" fn vs_get_full_adjacent_vertices_to(
+    t: &[u32],
+    v: VertexIndex,
+    out: &mut [u32],
+) -> Reply
+    ensures { replied result out.new ≡ on_formed t.now out.old (full_adjacent_result To v.0 out.old) }
+{
+    vaultsorrel::vs_get_full_adjacent_vertices_to(t, v, out)
+}
+
+// The places at which the vertex is stepped to.
+#[unsafe(no_mangle)]
+pub extern "C" fn vs_get_vertex_degree_in(t: &[u32], v: VertexIndex) -> Reply
+    ensures { replied result [] ≡ on_formed t.now [] (degree_result To v.0) }
+{
+    vaultsorrel::vs_get_vertex_degree_in(t, v)
+}
+
+// The places at which the vertex is stepped from.
+#[unsafe(no_mangle)]
+pub extern "C" fn vs_get_vertex_degree_out(t: &[u32], v: VertexIndex) -> Reply
+    ensures { replied result [] ≡ on_formed t.now [] (degree_result From v.0) }
+{
+    vaultsorrel::vs_get_vertex_degree_out(t, v)
+}
+
+// The hyperedges that step from one vertex to another, once for each place. The second vertex need not be live.
+#[unsafe(no_mangle)]
+pub extern "C" fn vs_get_hyperedges_connecting(
+    t: &[u32],
+    from: VertexIndex,
+    to: VertexIndex,
+    out: &mut [u32],
+) -> Reply
+    ensures { replied result out.new ≡ on_formed t.now out.old (connecting_result from.0 to.0 out.old) }
+{
+    vaultsorrel::vs_get_hyperedges_connecting(t, from, to, out)
+}
+
+// The vertices that every hyperedge of the list has as a member.
+#[unsafe(no_mangle)]
+pub extern "C" fn vs_get_hyperedges_intersections(
+    t: &[u32],
+    hyperedges: &[u32],
+    out: &mut [u32],
+) -> Reply
+    ensures { replied result out.new ≡ on_formed t.now out.old (intersections_result hyperedges.now out.old) }
+{
+    vaultsorrel::vs_get_hyperedges_intersections(t, hyperedges, out)
+}
+
+// The hyperedges of a weight.
+#[unsafe(no_mangle)]
+pub extern "C" fn vs_find_hyperedges_by_weight(t: &[u32], weight: u32, out: &mut [u32]) -> Reply
+    ensures { replied result out.new ≡ on_formed t.now out.old (weighing_result weight out.old) }
+{
+    vaultsorrel::vs_find_hyperedges_by_weight(t, weight, out)
+}
+
+// The lists that hold the vertex, each as length and members.
+#[unsafe(no_mangle)]
+pub extern "C" fn vs_get_full_vertex_hyperedges(t: &[u32], v: VertexIndex, out: &mut [u32]) -> Reply
+    ensures { replied result out.new ≡ on_formed t.now out.old (full_hyperedges_result v.0 out.old) }
+{
+    vaultsorrel::vs_get_full_vertex_hyperedges(t, v, out)
+}
+
+// Whether a vertex has the weight.
+#[unsafe(no_mangle)]
+pub extern "C" fn vs_contains_vertex(t: &[u32], weight: u32) -> Reply
+    ensures { replied result [] ≡ on_formed t.now [] (contains_result weight) }
+{
+    vaultsorrel::vs_contains_vertex(t, weight)
+}
+
+// The vertices that stand with the vertex in some list.
+#[unsafe(no_mangle)]
+pub extern "C" fn vs_get_vertex_neighborhood(t: &[u32], v: VertexIndex, out: &mut [u32]) -> Reply
+    ensures { replied result out.new ≡ on_formed t.now out.old (related_result Around v.0 out.old) }
+{
+    vaultsorrel::vs_get_vertex_neighborhood(t, v, out)
+}
+
+// The vertices of a weight.
+#[unsafe(no_mangle)]
+pub extern "C" fn vs_get_vertex_index(t: &[u32], weight: u32, out: &mut [u32]) -> Reply
+    ensures { replied result out.new ≡ on_formed t.now out.old (vertex_index_result weight out.old) }
+{
+    vaultsorrel::vs_get_vertex_index(t, weight, out)
+}
+
+// ---- Plain reads
+
+// The weight of a vertex.
+#[unsafe(no_mangle)]
+pub extern "C" fn vs_get_vertex_weight(t: &[u32], v: VertexIndex) -> Reply
+    ensures { replied result [] ≡ on_formed t.now [] (vertex_weight_result v.0) }
+{
+    vaultsorrel::vs_get_vertex_weight(t, v)
+}
+
+// The weight of a hyperedge.
+#[unsafe(no_mangle)]
+pub extern "C" fn vs_get_hyperedge_weight(t: &[u32], e: HyperedgeIndex) -> Reply
+    ensures { replied result [] ≡ on_formed t.now [] (hyperedge_weight_result e.0) }
+{
+    vaultsorrel::vs_get_hyperedge_weight(t, e)
+}
+
+// The members of a hyperedge, in their order.
+#[unsafe(no_mangle)]
+pub extern "C" fn vs_get_hyperedge_vertices(t: &[u32], e: HyperedgeIndex, out: &mut [u32]) -> Reply
+    ensures { replied result out.new ≡ on_formed t.now out.old (members_result e.0 out.old) }
+{
+    vaultsorrel::vs_get_hyperedge_vertices(t, e, out)
+}
+
+// The live vertices, ascending.
+#[unsafe(no_mangle)]
+pub extern "C" fn vs_get_vertices(t: &[u32], out: &mut [u32]) -> Reply
+    ensures { replied result out.new ≡ on_formed t.now out.old (vertices_result out.old) }
+{
+    vaultsorrel::vs_get_vertices(t, out)
+}
+
+// The live hyperedges, ascending.
+#[unsafe(no_mangle)]
+pub extern "C" fn vs_get_hyperedges(t: &[u32], out: &mut [u32]) -> Reply
+    ensures { replied result out.new ≡ on_formed t.now out.old (hyperedges_result out.old) }
+{
+    vaultsorrel::vs_get_hyperedges(t, out)
+}
+
+// ---- Traversal
+
+// Lists what is reached from v, breadth first, smallest neighbour first.
+#[unsafe(no_mangle)]
+pub extern "C" fn vs_get_bfs(t: &[u32], v: VertexIndex, out: &mut [u32]) -> Reply
+    ensures { replied result out.new ≡ on_formed t.now out.old (traversal_result BreadthFirst v.0 out.old) }
+{
+    vaultsorrel::vs_get_bfs(t, v, out)
+}
+
+// Lists what is reached from v, depth first in preorder, smallest neighbour first.
+#[unsafe(no_mangle)]
+pub extern "C" fn vs_get_dfs(t: &[u32], v: VertexIndex, out: &mut [u32]) -> Reply
+    ensures { replied result out.new ≡ on_formed t.now out.old (traversal_result DepthFirst v.0 out.old) }
+{
+    vaultsorrel::vs_get_dfs(t, v, out)
+}
+
+// Whether `to` is reached from `from` by a walk along steps, of no step or more: 1 or 0.
+#[unsafe(no_mangle)]
+pub extern "C" fn vs_is_reachable(t: &[u32], from: VertexIndex, to: VertexIndex) -> Reply
+    ensures { replied result [] ≡ on_formed t.now [] (reachable_result from.0 to.0) }
+{
+    vaultsorrel::vs_is_reachable(t, from, to)
+}
+
+// The other vertices from which the vertex is reached, ascending.
+#[unsafe(no_mangle)]
+pub extern "C" fn vs_get_upstream_vertices(t: &[u32], v: VertexIndex, out: &mut [u32]) -> Reply
+    ensures { replied result out.new ≡ on_formed t.now out.old (reached_result To v.0 out.old) }
+{
+    vaultsorrel::vs_get_upstream_vertices(t, v, out)
+}
+
+// The other vertices that are reached from the vertex, ascending.
+#[unsafe(no_mangle)]
+pub extern "C" fn vs_get_downstream_vertices(t: &[u32], v: VertexIndex, out: &mut [u32]) -> Reply
+    ensures { replied result out.new ≡ on_formed t.now out.old (reached_result From v.0 out.old) }
+{
+    vaultsorrel::vs_get_downstream_vertices(t, v, out)
+}
+
+// ---- Structure
+
+// Whether the table is empty, or all vertices are linked through co-membership: 1 or 0.
+#[unsafe(no_mangle)]
+pub extern "C" fn vs_is_connected(t: &[u32]) -> Reply
+    ensures { replied result [] ≡ on_formed t.now [] connected_result }
+{
+    vaultsorrel::vs_is_connected(t)
+}
+
+// Whether no steps form a closed walk: 1 or 0.
+#[unsafe(no_mangle)]
+pub extern "C" fn vs_is_acyclic(t: &[u32]) -> Reply
+    ensures { replied result [] ≡ on_formed t.now [] acyclic_result }
+{
+    vaultsorrel::vs_is_acyclic(t)
+}
+
+// Lists the pairs x, y with x not y and y reachable from x, sorted, two words each.
+#[unsafe(no_mangle)]
+pub extern "C" fn vs_get_transitive_closure(t: &[u32], out: &mut [u32]) -> Reply
+    ensures { replied result out.new ≡ on_formed t.now out.old (closure_result out.old) }
+{
+    vaultsorrel::vs_get_transitive_closure(t, out)
+}
+
+// Lists the live vertices in the smallest order in which every step goes forward.
+#[unsafe(no_mangle)]
+pub extern "C" fn vs_topological_sort(t: &[u32], out: &mut [u32]) -> Reply
+    ensures { replied result out.new ≡ on_formed t.now out.old (sort_result out.old) }
+{
+    vaultsorrel::vs_topological_sort(t, out)
+}
+
+// Lists the strong components, latest-finished vertex first, each as its length and its members.
+#[unsafe(no_mangle)]
+pub extern "C" fn vs_strongly_connected_components(t: &[u32], out: &mut [u32]) -> Reply
+    ensures { replied result out.new ≡ on_formed t.now out.old (strong_components_result out.old) }
+{
+    vaultsorrel::vs_strongly_connected_components(t, out)
+}
+
+// Lists the connected components, ordered by smallest member, each as its length and its members.
+#[unsafe(no_mangle)]
+pub extern "C" fn vs_connected_components(t: &[u32], out: &mut [u32]) -> Reply
+    ensures { replied result out.new ≡ on_formed t.now out.old (connected_components_result out.old) }
+{
+    vaultsorrel::vs_connected_components(t, out)
+}
+
+// ---- Properties
+
+// The vertices that no hyperedge lists.
+#[unsafe(no_mangle)]
+pub extern "C" fn vs_get_orphan_vertices(t: &[u32], out: &mut [u32]) -> Reply
+    ensures { replied result out.new ≡ on_formed t.now out.old (orphan_vertices_result out.old) }
+{
+    vaultsorrel::vs_get_orphan_vertices(t, out)
+}
+
+// The hyperedges without members: a well-formed table has none.
+#[unsafe(no_mangle)]
+pub extern "C" fn vs_get_orphan_hyperedges(t: &[u32], out: &mut [u32]) -> Reply
+    ensures { replied result out.new ≡ on_formed t.now out.old (orphan_hyperedges_result out.old) }
+{
+    vaultsorrel::vs_get_orphan_hyperedges(t, out)
+}
+
+// The vertices with no step in and those with no step out: count, sources, count, sinks.
+#[unsafe(no_mangle)]
+pub extern "C" fn vs_get_endpoints(t: &[u32], out: &mut [u32]) -> Reply
+    ensures { replied result out.new ≡ on_formed t.now out.old (endpoints_result out.old) }
+{
+    vaultsorrel::vs_get_endpoints(t, out)
+}
+
+// The pairs of hyperedges of which the first's distinct members are strictly within the second's.
+#[unsafe(no_mangle)]
+pub extern "C" fn vs_get_inclusions(t: &[u32], out: &mut [u32]) -> Reply
+    ensures { replied result out.new ≡ on_formed t.now out.old (inclusions_result out.old) }
+{
+    vaultsorrel::vs_get_inclusions(t, out)
+}
+
+// The vertices without which two others, linked through co-membership, no longer are.
+#[unsafe(no_mangle)]
+pub extern "C" fn vs_find_cut_vertices(t: &[u32], out: &mut [u32]) -> Reply
+    ensures { replied result out.new ≡ on_formed t.now out.old (cut_vertices_result out.old) }
+{
+    vaultsorrel::vs_find_cut_vertices(t, out)
+}
+
+// A row of size, included and total for each size that some hyperedge has.
+#[unsafe(no_mangle)]
+pub extern "C" fn vs_get_nestedness_profile(t: &[u32], out: &mut [u32]) -> Reply
+    ensures { replied result out.new ≡ on_formed t.now out.old (nestedness_result out.old) }
+{
+    vaultsorrel::vs_get_nestedness_profile(t, out)
+}
+
+// Whether every hyperedge has k members, repeats counted.
+#[unsafe(no_mangle)]
+pub extern "C" fn vs_is_k_uniform(t: &[u32], k: usize) -> Reply
+    ensures { replied result [] ≡ on_formed t.now [] (uniform_result k) }
+{
+    vaultsorrel::vs_is_k_uniform(t, k)
+}
+
+// ---- Paths
+
+// Lists the best walk from `from` to `to`: its cost as low word and high word, the count of entries, and the entries of vertex and hyperedge.
+#[unsafe(no_mangle)]
+pub extern "C" fn vs_get_dijkstra_connections_with_cost(
+    t: &[u32],
+    from: VertexIndex,
+    to: VertexIndex,
+    out: &mut [u32],
+) -> Reply
+    ensures { replied result out.new ≡ on_formed t.now out.old (pair_result from.0 to.0 out.old) }
+{
+    vaultsorrel::vs_get_dijkstra_connections_with_cost(t, from, to, out)
+}
+
+// Lists each vertex that is reached from `from` with its cost, ascending: vertex, low word, high word.
+#[unsafe(no_mangle)]
+pub extern "C" fn vs_get_dijkstra_from(t: &[u32], from: VertexIndex, out: &mut [u32]) -> Reply
+    ensures { replied result out.new ≡ on_formed t.now out.old (from_result from.0 out.old) }
+{
+    vaultsorrel::vs_get_dijkstra_from(t, from, out)
+}
+
+// ---- The walk
+
+// The start and one vertex for each step.
+#[unsafe(no_mangle)]
+pub extern "C" fn vs_random_walk(
+    t: &[u32],
+    start: VertexIndex,
+    steps: usize,
+    seed: u64,
+    out: &mut [u32],
+) -> Reply
+    ensures { replied result out.new ≡ on_formed t.now out.old (walk_result start.0 steps seed out.old) }
+{
+    vaultsorrel::vs_random_walk(t, start, steps, seed, out)
+}
+
+// ---- Frames
+
+// Writes the table's frame text from the front of the lent bytes.
+#[unsafe(no_mangle)]
+pub extern "C" fn vs_write_frames(t: &[u32], text: &mut [u8]) -> Reply
+    ensures { replied result text.new ≡ on_formed t.now text.old (write_result text.old) }
+{
+    vaultsorrel::vs_write_frames(t, text)
+}
+
+// Reads frame text into a table, or names the first line that no written text could have there.
+#[unsafe(no_mangle)]
+pub extern "C" fn vs_read_frames(t: &mut [u32], text: &[u8]) -> Reply
+    ensures { replied result t.new ≡ read_result text.now t.old }
+{
+    vaultsorrel::vs_read_frames(t, text)
+}

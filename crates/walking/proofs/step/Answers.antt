@@ -1,0 +1,10 @@
+-- `walking::step` meets its contract. Assumes nothing.
+use Rattle.walk.proofs.Walked.{move-dead, found_here}
+use borrow.Author.Rules.{rules}
+use Rattle.walking.proofs.step.Goals as goal
+
+pub step_from-requires : goal.step_from-requires
+step_from-requires c = record { formed = search rules; t_value = (search found_here, search rules) }
+
+pub returns-in-Nothing : goal.returns-in-Nothing
+returns-in-Nothing c = search move-dead

@@ -1,0 +1,18 @@
+-- `wording_lists::put_more_lists` meets its contract: what is left, written on the page as it is, gives the page with all of it. Assumes nothing.
+use mathlib.Core.Path.{refl}
+use Prim.Native.Nat.{◌-◌}
+use Rattle.wording.proofs.Writing.{left-length}
+use Rattle.wording_lists.proofs.Listed.{left-list, left-no-list}
+use Rattle.wording_lists.proofs.put_more_lists.Goals as goal
+
+pub loop-i-init : goal.loop-i-init
+loop-i-init c = refl
+
+pub loop-i-preserved : goal.loop-i-preserved
+loop-i-preserved c = search left-list
+
+pub shape_of-out : goal.shape_of-out
+shape_of-out c = search left-length
+
+pub returns : goal.returns
+returns c = search left-no-list
