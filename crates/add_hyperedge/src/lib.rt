@@ -10,9 +10,8 @@ ghost use Rattle.layout.specs.Content.{hyperedge_of};
 ghost use Rattle.edits.specs.Records.{put_hyperedge};
 ghost use Rattle.edits.specs.Stages.{add_new_result, add_judged_result};
 
-use edits::Judgement;
 use edits::records::{LAST_NUMBER, put_members};
-use layout::{Answer, Found};
+use layout::{Answer, Refusal};
 use member_lists::{judge_members, same_members};
 
 // Stores a hyperedge of number x at place m, and counts it.
@@ -36,14 +35,14 @@ fn add_new(t: &mut [u32], members: &[u32], weight: u32) -> Answer
 {
     let m = layout::hyperedge_count(t);
     if layout::HYPEREDGE_LIMIT <= m {
-        return Answer::Full;
+        return Err(Refusal::Full);
     }
     let x = layout::next_hyperedge(t);
     if x == LAST_NUMBER {
-        return Answer::NumbersSpent;
+        return Err(Refusal::NumbersSpent);
     }
     put_hyperedge(t, m, x, weight, members);
-    Answer::Done(x as usize)
+    Ok(x as usize)
 }
 
 // Whether hyperedge record j has this list and weight.
@@ -60,19 +59,17 @@ fn is_identical(t: &[u32], j: usize, members: &[u32], weight: u32) -> bool
 }
 
 // The place of the first hyperedge that has this list and weight.
-fn find_identical(t: &[u32], members: &[u32], weight: u32) -> Found
+fn find_identical(t: &[u32], members: &[u32], weight: u32) -> Option<usize>
     requires { Formed limit t.now }
     ensures { result ≡ first_passing (identical members.now weight) (read_hyperedges limit t.now) }
 {
     let m = layout::hyperedge_count(t);
-    let mut j = 0;
-    while j < m {
+    for j in 0..m {
         if is_identical(t, j, members, weight) {
-            return Found::At(j);
+            return Some(j);
         }
-        j += 1;
     }
-    Found::Nothing
+    None
 }
 
 // Answers an identical hyperedge's number, or adds one.
@@ -81,11 +78,10 @@ fn add_judged(t: &mut [u32], members: &[u32], weight: u32) -> Answer
     requires members_nonzero { (0 < length members.now) × (length members.now ≤ limit) }
     ensures { result_of result t.new ≡ add_judged_result members.now weight t.old (read limit t.old) }
 {
-    let f = find_identical(t, members, weight);
-    match f {
-        Found::At(j) => Answer::Done(layout::hyperedge_number(t, j) as usize),
-        Found::Nothing => add_new(t, members, weight),
+    if let Some(j) = find_identical(t, members, weight) {
+        return Ok(layout::hyperedge_number(t, j) as usize);
     }
+    add_new(t, members, weight)
 }
 
 // The addition, to a well-formed table.
@@ -93,11 +89,8 @@ fn add_formed(t: &mut [u32], members: &[u32], weight: u32) -> Answer
     requires { Formed limit t.old }
     ensures { result_of result t.new ≡ add_hyperedge_result members.now weight t.old (read limit t.old) }
 {
-    let f = judge_members(t, members, weight);
-    match f {
-        Judgement::Refused(a) => a,
-        Judgement::Fine => add_judged(t, members, weight),
-    }
+    judge_members(t, members, weight)?;
+    add_judged(t, members, weight)
 }
 
 // Adds a hyperedge with the next number, or finds the first identical one; the answer tells the number.
@@ -105,7 +98,7 @@ pub fn add_hyperedge(t: &mut [u32], members: &[u32], weight: u32) -> Answer
     ensures { result_of result t.new ≡ on_formed t.old t.old (add_hyperedge_result members.now weight t.old) }
 {
     if !well_formed::well_formed(t) {
-        return Answer::NotWellFormed;
+        return Err(Refusal::NotWellFormed);
     }
     add_formed(t, members, weight)
 }

@@ -9,7 +9,7 @@ ghost use Rattle.edits.specs.Results.{last_number, add_vertex_result};
 ghost use Rattle.edits.specs.Records.{put_vertex};
 
 use edits::records::LAST_NUMBER;
-use layout::Answer;
+use layout::{Answer, Refusal};
 
 // Stores a vertex of number x at place n, and counts it.
 fn put_vertex(t: &mut [u32], n: usize, x: u32, weight: u32)
@@ -29,14 +29,14 @@ fn add_formed(t: &mut [u32], weight: u32) -> Answer
 {
     let n = layout::vertex_count(t);
     if layout::VERTEX_LIMIT <= n {
-        return Answer::Full;
+        return Err(Refusal::Full);
     }
     let x = layout::next_vertex(t);
     if x == LAST_NUMBER {
-        return Answer::NumbersSpent;
+        return Err(Refusal::NumbersSpent);
     }
     put_vertex(t, n, x, weight);
-    Answer::Done(x as usize)
+    Ok(x as usize)
 }
 
 // Adds a vertex with the next number, which the answer tells.
@@ -44,7 +44,7 @@ pub fn add_vertex(t: &mut [u32], weight: u32) -> Answer
     ensures { result_of result t.new ≡ on_formed t.old t.old (add_vertex_result weight t.old) }
 {
     if !well_formed::well_formed(t) {
-        return Answer::NotWellFormed;
+        return Err(Refusal::NotWellFormed);
     }
     add_formed(t, weight)
 }

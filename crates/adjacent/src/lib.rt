@@ -13,7 +13,7 @@ ghost use Rattle.lookups.specs.Results.{related_result};
 ghost use Rattle.lookups.specs.declared.Direction.TheVariants.{From, To};
 ghost use Rattle.lookups.specs.declared.Relation.TheVariants.{Along, Around};
 
-use layout::{Answer, Found, VertexIndex};
+use layout::{Answer, Refusal, VertexIndex};
 use lookups::{Direction, Relation, ends_at, holds};
 
 // Marks the vertices to which a step of a list leads from v, or from which one leads to v.
@@ -22,13 +22,11 @@ fn mark_ends(t: &[u32], list: &[u32], v: u32, dir: Direction, marks: &mut [bool;
     requires marks_len { length marks.old ≡ vertex_limit }
     ensures { MarkedBy (live_vertices (read limit t.now)) (some_of (oriented dir is_step v) (steps_of list.now)) marks.old marks.new }
 {
-    let mut i = 0;
-    while i + 1 < list.len() {
+    for i in 0..list.len().saturating_sub(1) {
         let ends = ends_at(list, i, dir);
         if ends.near == v {
             marks::mark(t, ends.far, marks);
         }
-        i += 1;
     }
 }
 
@@ -38,12 +36,10 @@ fn mark_others(t: &[u32], ms: &[u32], v: u32, marks: &mut [bool; 256])
     requires marks_len { length marks.old ≡ vertex_limit }
     ensures { MarkedBy (live_vertices (read limit t.now)) (some_of (is_other v) ms.now) marks.old marks.new }
 {
-    let mut i = 0;
-    while i < ms.len() {
+    for i in 0..ms.len() {
         if ms[i] != v {
             marks::mark(t, ms[i], marks);
         }
-        i += 1;
     }
 }
 
@@ -70,10 +66,8 @@ fn related_marks(t: &[u32], rel: Relation, v: u32) -> [bool; 256]
 {
     let m = layout::hyperedge_count(t);
     let mut marks = [false; 256];
-    let mut j = 0;
-    while j < m {
+    for j in 0..m {
         mark_record(t, j, rel, v, &mut marks);
-        j += 1;
     }
     marks
 }
@@ -82,14 +76,9 @@ fn list_related(t: &[u32], rel: Relation, v: VertexIndex, out: &mut [u32]) -> An
     requires { Formed limit t.now }
     ensures { result_of result out.new ≡ related_result rel v.0 out.old (read limit t.now) }
 {
-    let f = find::find_vertex(t, v);
-    match f {
-        Found::Nothing => Answer::VertexNotLive(v),
-        Found::At(_) => {
-            let marks = related_marks(t, rel, v.0);
-            marks::list_marked(t, &marks, out)
-        }
-    }
+    find::find_vertex(t, v).ok_or(Refusal::VertexNotLive(v))?;
+    let marks = related_marks(t, rel, v.0);
+    marks::list_marked(t, &marks, out)
 }
 
 // The vertices that a step from the vertex leads to.
@@ -97,7 +86,7 @@ pub fn get_adjacent_vertices_from(t: &[u32], v: VertexIndex, out: &mut [u32]) ->
     ensures { result_of result out.new ≡ on_formed t.now out.old (related_result (Along From) v.0 out.old) }
 {
     if !well_formed::well_formed(t) {
-        return Answer::NotWellFormed;
+        return Err(Refusal::NotWellFormed);
     }
     list_related(t, Relation::Along(Direction::From), v, out)
 }
@@ -107,7 +96,7 @@ pub fn get_adjacent_vertices_to(t: &[u32], v: VertexIndex, out: &mut [u32]) -> A
     ensures { result_of result out.new ≡ on_formed t.now out.old (related_result (Along To) v.0 out.old) }
 {
     if !well_formed::well_formed(t) {
-        return Answer::NotWellFormed;
+        return Err(Refusal::NotWellFormed);
     }
     list_related(t, Relation::Along(Direction::To), v, out)
 }
@@ -117,7 +106,7 @@ pub fn get_vertex_neighborhood(t: &[u32], v: VertexIndex, out: &mut [u32]) -> An
     ensures { result_of result out.new ≡ on_formed t.now out.old (related_result Around v.0 out.old) }
 {
     if !well_formed::well_formed(t) {
-        return Answer::NotWellFormed;
+        return Err(Refusal::NotWellFormed);
     }
     list_related(t, Relation::Around, v, out)
 }

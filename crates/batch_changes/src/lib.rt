@@ -19,6 +19,7 @@ pub fn has_change(batch: &[u8]) -> bool
     ensures { result ≡ has_change batch.now }
 {
     let mut from = 0;
+    // counts no index: it goes from the beginning of one line to the next
     while from < batch.len() {
         let end = text_lines::line_end(batch, from);
         if is_changing(&batch[from..end]) {

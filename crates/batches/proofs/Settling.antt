@@ -1,4 +1,5 @@
 -- From what the calls promise to what is said of one line. Assumes nothing.
+use Rattle.std.specs.Prelude.{Ok, Err}
 use mathlib.Core.Path.{◌≡◌, refl, sym, ap, ◌∙◌}
 use mathlib.Core.Bool.{Bool, true, false}
 use mathlib.Core.List.{List, [], ◌∷◌}
@@ -8,8 +9,8 @@ use lib.ListN.{length, take, drop, length-drop, length-take, length-append}
 use lib.Seq.{take-append_seam}
 use borrow.Author.Tests.{eq-eqb, ne_eqb, lt-ltb, le-ltb}
 use Rattle.lists.specs.Lists.{over}
-use Rattle.layout.specs.declared.Answer.{Answer}
-use Rattle.layout.specs.declared.Answer.TheVariants.{Done, NoRoom}
+use Rattle.layout.specs.Answers.{Answer}
+use Rattle.layout.specs.declared.Refusal.TheVariants.{NoRoom}
 use Rattle.layout.specs.Answers.{number, detail, Result, result_of, on_formed}
 use Rattle.desk.specs.Desk.{Desk, desk_of}
 use Rattle.desk.specs.States.{all_waiting}
@@ -54,11 +55,11 @@ module _ (how : Manner) (name : List ℕ) (i : ℕ) (c : Command) (ns ws : List 
 
   -- ---- done or refused
 
-  pub settled-done : (b : List ℕ) (next : ℕ) → next < length b → said 0 (page b next) ≡ settled how name i c ns ws (result_of (Done next) b)
+  pub settled-done : (b : List ℕ) (next : ℕ) → next < length b → said 0 (page b next) ≡ settled how name i c ns ws (result_of (Ok next) b)
   unfolding settled
   settled-done b next h = rw (lt-ltb next (length b) h)
 
-  pub settled-full : (b : List ℕ) (next : ℕ) (x : Said) → length b ≤ next → x ≡ refused how name i c ns ws (result_of (NoRoom 0) b) → x ≡ settled how name i c ns ws (result_of (Done next) b)
+  pub settled-full : (b : List ℕ) (next : ℕ) (x : Said) → length b ≤ next → x ≡ refused how name i c ns ws (result_of (Err (NoRoom 0)) b) → x ≡ settled how name i c ns ws (result_of (Ok next) b)
   unfolding settled
   settled-full b next x h e = e ∙ rw (le-ltb next (length b) h)
 
@@ -67,11 +68,11 @@ module _ (how : Manner) (name : List ℕ) (i : ℕ) (c : Command) (ns ws : List 
   settled-refused a b m x e ne h = h ∙ rw (ne_eqb (number a) 0 (λ z. ne (e ∙ z)))
 
   -- a done answer, by its detail
-  pub settled-by : (a : Answer) (b : List ℕ) (m next : ℕ) (x : Said) → m ≡ number a → m ≡ 0 → next ≡ detail a → x ≡ settled how name i c ns ws (result_of (Done next) b) → x ≡ settled how name i c ns ws (result_of a b)
+  pub settled-by : (a : Answer) (b : List ℕ) (m next : ℕ) (x : Said) → m ≡ number a → m ≡ 0 → next ≡ detail a → x ≡ settled how name i c ns ws (result_of (Ok next) b) → x ≡ settled how name i c ns ws (result_of a b)
   settled-by a b m next x e z d h =
-      let same : result_of (Done (detail a)) b ≡ result_of a b =
+      let same : result_of (Ok (detail a)) b ≡ result_of a b =
       ap (λ (k : ℕ). record { number = k; detail = detail a; lent = b }) (sym z ∙ e) in
-      h ∙ ap (λ (k : ℕ). settled how name i c ns ws (result_of (Done k) b)) d ∙ ap (settled how name i c ns ws) same
+      h ∙ ap (λ (k : ℕ). settled how name i c ns ws (result_of (Ok k) b)) d ∙ ap (settled how name i c ns ws) same
 
 module _ (how : Manner) (name : List ℕ) (i : ℕ) (line : List ℕ) (c : Command) (ns : List ℕ) (d : Desk) (p : Page) (m : Bool) (f : m ≡ is_misused how i c) where
   pub line-misused : (e : List ℕ) (n : ℕ) → m ≡ true → page e n ≡ write (misuse_text how.single i c line) (page p.bytes 0)

@@ -1,7 +1,7 @@
 -- Commands carried out, one line after the other, all or none. Assumes nothing.
-use Rattle.std.specs.Prelude.{Bool, cond, List, [], ◌∷◌, ℕ, suc, eqb, ltb, length, take}
+use Rattle.std.specs.Prelude.{Bool, cond, List, [], ◌∷◌, ℕ, suc, eqb, ltb, length, take, Err}
 use Rattle.lists.specs.Tests.{◌and◌}
-use Rattle.layout.specs.declared.Answer.TheVariants.{NoRoom}
+use Rattle.layout.specs.declared.Refusal.TheVariants.{NoRoom}
 use Rattle.layout.specs.Layout.{limit, size, vertex_limit}
 use Rattle.layout.specs.Answers.{Result, result_of, on_formed}
 use Rattle.desk.specs.Desk.{Desk}
@@ -46,7 +46,7 @@ refused how name i c ns ws x =
 
 -- no room for the whole sheet: 11
 abbrev pub unroomed : List ℕ → Result
-unroomed bytes = result_of (NoRoom 0) bytes
+unroomed bytes = result_of (Err (NoRoom 0)) bytes
 
 -- done, or refused; a page that is full had no room for the whole sheet
 unfoldable pub settled : Manner → List ℕ → ℕ → Command → List ℕ → List ℕ → Result → Said

@@ -13,7 +13,7 @@ ghost use Rattle.batches.specs.Runs.{said_by, ended_by};
 
 use command_sheets::Manner;
 use commands::Command;
-use layout::Answer;
+use layout::{Answer, Refusal, Reply};
 use query_sheets::first;
 use read_frames::copy_words;
 
@@ -34,7 +34,7 @@ fn walk_named(t: &[u32], number: u32, walk: &mut [u32]) -> usize
         return 0;
     }
     let a = closed_walk::closed_walk(t, walk);
-    let reply = layout::reply_of(a);
+    let reply = Reply::from(a);
     reply.detail as usize
 }
 
@@ -52,7 +52,7 @@ fn refuse_through(
 ) -> usize
     ensures { page out.new result ≡ write (refusal_text how.single i c (list_in c ns.now) name.now (walk_on (number answer) t.now walk.old) (number answer) (detail answer)) (page out.old 0) }
 {
-    let reply = layout::reply_of(answer);
+    let reply = Reply::from(answer);
     let k = walk_named(t, reply.number, walk);
     let list = command_sheets::list_in(c, ns);
     messages::put_refusal(how.single, i, c, list, name, first(walk, k), answer, out, 0)
@@ -91,7 +91,7 @@ fn settle_done(
     next: usize,
     out: &mut [u8],
 ) -> Ran
-    ensures { said_by result out.new ≡ settled how name.now i c ns.now t.now (result_of (Answer.Done next) out.old) }
+    ensures { said_by result out.new ≡ settled how name.now i c ns.now t.now (result_of (Ok next) out.old) }
 {
     if next < out.len() {
         return Ran {
@@ -99,7 +99,7 @@ fn settle_done(
             length: next,
         };
     }
-    refuse(t, how, name, i, c, ns, Answer::NoRoom(0), out)
+    refuse(t, how, name, i, c, ns, Err(Refusal::NoRoom(0)), out)
 }
 
 // What a command answered: done, or refused.
@@ -115,7 +115,7 @@ fn settle(
 ) -> Ran
     ensures { said_by result out.new ≡ settled how name.now i c ns.now t.now (result_of answer out.old) }
 {
-    let reply = layout::reply_of(answer);
+    let reply = Reply::from(answer);
     if reply.number != 0 {
         return refuse(t, how, name, i, c, ns, answer, out);
     }
@@ -190,6 +190,7 @@ fn run_lines(
     let mut at = 0;
     let mut i = 1;
     let mut from = 0;
+    // counts no index: it goes from the beginning of one line to the next
     while from < batch.len() {
         let end = text_lines::line_end(batch, from);
         let ran = run_line(t, s, how, name, i, &batch[from..end], out, at);

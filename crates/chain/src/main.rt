@@ -4,11 +4,11 @@
 
 use add_hyperedge::add_hyperedge;
 use add_vertex::add_vertex;
-use layout::{Answer, VertexIndex};
+use layout::{Answer, Reply, VertexIndex};
 use std::io;
 
 fn say(rt: &impl Print, what: &str, a: Answer) -> io::Result<()> {
-    let r = layout::reply_of(a);
+    let r = Reply::from(a);
     println!(rt; "{what}: {} {}", r.number, r.detail)
 }
 
@@ -24,23 +24,20 @@ fn say_ends(rt: &impl Print, out: &[u32; layout::VERTEX_LIMIT]) -> io::Result<()
 }
 
 fn add_vertices(t: &mut [u32]) {
-    let mut i = 0;
-    while i < layout::VERTEX_LIMIT {
-        add_vertex(t, 7);
-        i += 1;
+    for _ in 0..layout::VERTEX_LIMIT {
+        let _ = add_vertex(t, 7);
     }
 }
 
 // Adds the lists 0, 1, 2 and 2, 3, 4 and so on, and 254, 255 last.
 fn add_steps(t: &mut [u32]) {
-    let mut x: u32 = 0;
-    while x < 254 {
+    for k in 0u32..127 {
+        let x = 2 * k;
         let list = [x, x + 1, x + 2];
-        add_hyperedge(t, &list, 5);
-        x += 2;
+        let _ = add_hyperedge(t, &list, 5);
     }
     let last = [254u32, 255];
-    add_hyperedge(t, &last, 5);
+    let _ = add_hyperedge(t, &last, 5);
 }
 
 fn breadth_first(rt: &impl Print, t: &[u32]) -> io::Result<()> {

@@ -1,12 +1,12 @@
 -- The tables before and after an edit, and the sheet of what it did. Assumes nothing.
+use Rattle.std.specs.Prelude.{Ok}
 use mathlib.Core.Path.{◌≡◌, sym, ap, subst, ◌∙◌}
 use mathlib.Core.Bool.{Bool, true, false, not, cond}
 use mathlib.Core.List.{List, [], map}
 use Prim.Native.Nat.{ℕ}
 use lib.Dec.{eqb}
 use Rattle.layout.specs.declared.VertexIndex.{VertexIndex}
-use Rattle.layout.specs.declared.Answer.{Answer}
-use Rattle.layout.specs.declared.Answer.TheVariants.{Done}
+use Rattle.layout.specs.Answers.{Answer}
 use Rattle.layout.specs.Layout.{limit, read}
 use Rattle.layout.specs.WellFormed.{well_formed}
 use Rattle.layout.specs.Inner.{Formed}
@@ -39,14 +39,14 @@ module _ (ws ss before : List ℕ) (copy : before ≡ ws) where
     module _ (plain r : Bool) (er : r ≡ eqb (number a) 0) (h : not r ≡ false) (b : List ℕ) (at : ℕ) (b' : List ℕ) (n : ℕ) where
       pub tubes-done : (list : List ℕ) → outcome a (desk_of ws' ss') ≡ desk_edit (withdraw (map (of_kind vertex_kind) list)) (desk_of ws ss)
           → page b' n ≡ write (cond plain [] (tubes_said list (read limit before) (read limit ws'))) (page b at)
-          → told (Done n) (desk_of ws' ss') b' ≡ change_told plain WithdrawTubes list (desk_of ws ss) (page b at)
+          → told (Ok n) (desk_of ws' ss') b' ≡ change_told plain WithdrawTubes list (desk_of ws ss) (page b at)
       tubes-done list e x =
           change-done plain WithdrawTubes list (desk_of ws ss) a (desk_of ws' ss') e r er b at h b' n
           (x ∙ ap (λ (us : List ℕ). write (cond plain [] (tubes_said list (read limit us) (read limit ws'))) (page b at)) copy)
 
       pub merge-done : (v w : VertexIndex) → outcome a (desk_of ws' ss') ≡ desk_edit (merge v.0 w.0) (desk_of ws ss)
           → page b' n ≡ write (cond plain [] (merged_said v.0 w.0 (read limit before) (read limit ws'))) (page b at)
-          → told (Done n) (desk_of ws' ss') b' ≡ change_told plain (Merge v w) [] (desk_of ws ss) (page b at)
+          → told (Ok n) (desk_of ws' ss') b' ≡ change_told plain (Merge v w) [] (desk_of ws ss) (page b at)
       merge-done v w e x =
           change-done plain (Merge v w) [] (desk_of ws ss) a (desk_of ws' ss') e r er b at h b' n
           (x ∙ ap (λ (us : List ℕ). write (cond plain [] (merged_said v.0 w.0 (read limit us) (read limit ws'))) (page b at)) copy)

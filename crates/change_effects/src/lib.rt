@@ -39,7 +39,7 @@ pub fn withdraw_tubes(
     if !is_done(a) {
         return a;
     }
-    Answer::Done(effect_sheets::say_tubes_withdrawn(plain, list, &before, t, out, at))
+    Ok(effect_sheets::say_tubes_withdrawn(plain, list, &before, t, out, at))
 }
 
 pub fn make_merge(
@@ -59,5 +59,5 @@ pub fn make_merge(
     if !is_done(a) {
         return a;
     }
-    Answer::Done(effect_sheets::say_merged(plain, v, w, &before, t, out, at))
+    Ok(effect_sheets::say_merged(plain, v, w, &before, t, out, at))
 }

@@ -1,11 +1,12 @@
 -- The kinds of a change, and a desk that does not fit. Assumes nothing.
+use Rattle.std.specs.Prelude.{Err}
 use mathlib.Core.Path.{◌≡◌, sym, ◌∙◌}
 use mathlib.Core.Bool.{Bool, true, false, not}
 use mathlib.Core.List.{List, []}
 use Prim.Native.Nat.{ℕ}
 use borrow.Author.Tests.{not-true, not-false}
 use Rattle.layout.specs.declared.VertexIndex.{VertexIndex}
-use Rattle.layout.specs.declared.Answer.TheVariants.{NotWellFormed}
+use Rattle.layout.specs.declared.Refusal.TheVariants.{NotWellFormed}
 use Rattle.commands.specs.declared.Change.{Change}
 use Rattle.commands.specs.declared.Change.TheVariants.{Tube, Transfer, Relist, WithdrawTubes, WithdrawTransfers, Merge, Review, Release}
 use Rattle.desk.specs.Desk.{Desk, desk_of, outcome, desk_fits}
@@ -16,7 +17,7 @@ use Rattle.changes.specs.Changes.{changed, Told, told, change_told}
 
 -- ---- r is what `desk_fits` found
 
-changed-unfit : (c : Change) (list : List ℕ) (d : Desk) → desk_fits d ≡ false → changed c list d ≡ outcome NotWellFormed d
+changed-unfit : (c : Change) (list : List ℕ) (d : Desk) → desk_fits d ≡ false → changed c list d ≡ outcome (Err NotWellFormed) d
 unfolding on_desk
 changed-unfit (Tube w) list d u = edit-unfit _ d u
 changed-unfit (Transfer w) list d u = edit-unfit _ d u
@@ -31,7 +32,7 @@ pub fits-by-test : (r : Bool) → not r ≡ false → (ws ss : List ℕ) → r �
 fits-by-test r h ws ss e = sym e ∙ not-false r h
 
 pub unfit-told : (ws ss : List ℕ) (r : Bool) → r ≡ desk_fits (desk_of ws ss) → not r ≡ true → (plain : Bool) (c : Change) (list b : List ℕ) (at : ℕ)
-    → told NotWellFormed (desk_of ws ss) b ≡ change_told plain c list (desk_of ws ss) (page b at)
+    → told (Err NotWellFormed) (desk_of ws ss) b ≡ change_told plain c list (desk_of ws ss) (page b at)
 unfolding change_told
 unfit-told ws ss r e h plain c list b at = rw (changed-unfit c list (desk_of ws ss) (sym e ∙ not-true r h))
 

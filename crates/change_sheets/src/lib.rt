@@ -8,7 +8,7 @@ ghost use Rattle.changes.specs.Changes.{told, change_told};
 
 use commands::Change;
 use desk_fits::desk_fits;
-use layout::Answer;
+use layout::{Answer, Refusal};
 
 // The change, of a desk that fits.
 fn make_fitting(
@@ -48,7 +48,7 @@ pub fn make_change(
     ensures { told result (desk_of t.new s.new) out.new ≡ change_told plain c list.now (desk_of t.old s.old) (page out.old at) }
 {
     if !desk_fits(t, s) {
-        return Answer::NotWellFormed;
+        return Err(Refusal::NotWellFormed);
     }
     make_fitting(t, s, c, list, plain, out, at)
 }

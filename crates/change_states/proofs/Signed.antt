@@ -1,4 +1,5 @@
 -- A review and releases at the desk, and their sheets by the states before. Assumes nothing.
+use Rattle.std.specs.Prelude.{Ok}
 use mathlib.Core.Path.{◌≡◌, sym, ap, ◌∙◌}
 use mathlib.Core.Bool.{Bool, true, false, not, cond}
 use mathlib.Core.List.{List, []}
@@ -8,8 +9,7 @@ use lib.ListN.{length}
 use borrow.Author.Tests.{not-false}
 use Rattle.lists.proofs.Cases.{clash}
 use Rattle.layout.specs.declared.VertexIndex.{VertexIndex}
-use Rattle.layout.specs.declared.Answer.{Answer}
-use Rattle.layout.specs.declared.Answer.TheVariants.{Done}
+use Rattle.layout.specs.Answers.{Answer}
 use Rattle.layout.specs.Content.{live_vertices, is_live}
 use Rattle.layout.specs.Layout.{limit, vertex_limit, read}
 use Rattle.layout.specs.Inner.{Formed}
@@ -37,7 +37,7 @@ as-signed ws ss ss' a x e = ap (λ (y : Result). answering y (desk_of ws y.lent)
 
 module _ (d : Desk) (v : ℕ) where
   shown : desk_fits d ≡ true → is_live (live_vertices (content d)) v ≡ true
-      → on_desk d [] (state_result v d.states) ≡ result_of (Done (state_of (content d) d.states v)) []
+      → on_desk d [] (state_result v d.states) ≡ result_of (Ok (state_of (content d) d.states v)) []
   unfolding on_desk state_result on_live
   shown fits live = rw (fits, live)
 
@@ -57,7 +57,7 @@ module _ (plain : Bool) (ws ss ss' : List ℕ) (a : Answer) (r : Bool) (er : r �
     -- before is what `desk_state` answered
     pub review-done : (before : Answer) → result_of before [] ≡ on_desk (desk_of ws ss) [] (state_result v.0 ss) → not r ≡ false
         → (b' : List ℕ) (n : ℕ) → page b' n ≡ write (cond plain [] (review_said (detail before) v.0)) (page b at)
-        → told (Done n) (desk_of ws ss') b' ≡ change_told plain (Review v) [] (desk_of ws ss) (page b at)
+        → told (Ok n) (desk_of ws ss') b' ≡ change_told plain (Review v) [] (desk_of ws ss) (page b at)
     review-done before q h b' n x =
         let z : eqb (on_desk (desk_of ws ss) ss (review_result v.0 ss)).number 0 ≡ true =
         ap (λ (y : Result). eqb y.number 0) (sym e) ∙ sym er ∙ not-false r h in
@@ -72,7 +72,7 @@ module _ (plain : Bool) (ws ss ss' : List ℕ) (a : Answer) (r : Bool) (er : r �
     -- before is what `copy_of` returned
     pub releases-done : (before : List ℕ) → before ≡ ss → not r ≡ false
         → (b' : List ℕ) (n : ℕ) → page b' n ≡ write (cond plain [] (releases_said (read limit ws) before list)) (page b at)
-        → told (Done n) (desk_of ws ss') b' ≡ change_told plain Release list (desk_of ws ss) (page b at)
+        → told (Ok n) (desk_of ws ss') b' ≡ change_told plain Release list (desk_of ws ss) (page b at)
     releases-done before q h b' n x =
         change-done plain Release list (desk_of ws ss) a (desk_of ws ss') (as-signed ws ss ss' a _ e) r er b at h b' n
         (x ∙ ap (λ (y : List ℕ). write (cond plain [] (releases_said (read limit ws) y list)) (page b at)) q)

@@ -25,7 +25,7 @@ pub fn make_review(
     if !is_done(a) {
         return a;
     }
-    Answer::Done(state_sheets::say_review(plain, before, v, out, at))
+    Ok(state_sheets::say_review(plain, before, v, out, at))
 }
 
 pub fn make_releases(
@@ -44,5 +44,5 @@ pub fn make_releases(
     if !is_done(a) {
         return a;
     }
-    Answer::Done(state_sheets::say_releases(plain, t, &before, list, out, at))
+    Ok(state_sheets::say_releases(plain, t, &before, list, out, at))
 }

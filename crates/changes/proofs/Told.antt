@@ -1,4 +1,5 @@
 -- A change refused, and a change done with its sheet written. Assumes nothing.
+use Rattle.std.specs.Prelude.{Ok}
 use mathlib.Core.Path.{◌≡◌, sym, ap, ◌∙◌}
 use mathlib.Core.Bool.{Bool, true, false, not, cond}
 use mathlib.Core.List.{List}
@@ -6,8 +7,7 @@ use Prim.Native.Nat.{ℕ}
 use lib.Dec.{eqb}
 use lib.ListN.{length}
 use borrow.Author.Tests.{not-true, not-false}
-use Rattle.layout.specs.declared.Answer.{Answer}
-use Rattle.layout.specs.declared.Answer.TheVariants.{Done}
+use Rattle.layout.specs.Answers.{Answer}
 use Rattle.layout.specs.Layout.{limit, size, next_hyperedge_in}
 use Rattle.layout.specs.Answers.{number, detail}
 use Rattle.layout.proofs.Read.{formed-of}
@@ -38,7 +38,7 @@ module _ (plain : Bool) (c : Change) (list : List ℕ) (d : Desk) (a : Answer) (
 
   -- the sheet is written on the page b', up to the place n
   pub change-done : not r ≡ false → (b' : List ℕ) (n : ℕ) → page b' n ≡ write (sheet plain c list d (outcome a d')) (page b at)
-      → told (Done n) d' b' ≡ change_told plain c list d (page b at)
+      → told (Ok n) d' b' ≡ change_told plain c list d (page b at)
   change-done h b' n w = ap (written d') w ∙ sym (made true (sym er ∙ not-false r h))
 
 -- ---- a transfer
@@ -50,6 +50,6 @@ sized-by-desk ws ss h = (formed-of limit ws (desk-fits-of h).formed).shape.sized
 pub transfer-done : (plain : Bool) (w : ℕ) (list ws ss : List ℕ) (a : Answer) (d' : Desk) (r : Bool) (b : List ℕ) (at : ℕ) (b' : List ℕ) (n next : ℕ)
     → next ≡ next_hyperedge_in ws → outcome a d' ≡ desk_edit (add_hyperedge list w) (desk_of ws ss) → r ≡ eqb (number a) 0 → not r ≡ false
     → page b' n ≡ write (cond plain (number_alone (detail a)) (transfer_said (detail a) next w list)) (page b at)
-    → told (Done n) d' b' ≡ change_told plain (Transfer w) list (desk_of ws ss) (page b at)
+    → told (Ok n) d' b' ≡ change_told plain (Transfer w) list (desk_of ws ss) (page b at)
 transfer-done plain w list ws ss a d' r b at b' n next en e er h x =
     change-done plain (Transfer w) list (desk_of ws ss) a d' e r er b at h b' n (rw (← en) x)

@@ -1,7 +1,6 @@
 -- What each change answers and leaves, and what it says. Assumes nothing.
-use Rattle.std.specs.Prelude.{Bool, cond, List, [], map, ℕ, eqb}
-use Rattle.layout.specs.declared.Answer.{Answer}
-use Rattle.layout.specs.declared.Answer.TheVariants.{Done}
+use Rattle.std.specs.Prelude.{Bool, cond, List, [], map, ℕ, eqb, Ok}
+use Rattle.layout.specs.Answers.{Answer}
 use Rattle.layout.specs.Answers.{number, detail}
 use Rattle.trays.specs.Trays.{vertex_kind, hyperedge_kind}
 use Rattle.calls.specs.Calls.{add_vertex, add_hyperedge, update, merge, withdraw}
@@ -72,7 +71,7 @@ told a d bytes = record { number = number a; detail = detail a; desk = d; lent =
 
 -- done: the detail is the place of the next byte
 abbrev pub written : Desk → Page → Told
-written d p = told (Done p.next) d p.bytes
+written d p = told (Ok p.next) d p.bytes
 
 -- refused as the call was: nothing changes, and nothing is written
 abbrev pub unwritten : Outcome → Desk → Page → Told

@@ -25,7 +25,7 @@ pub fn make_tube(
     if !is_done(a) {
         return a;
     }
-    Answer::Done(entry_sheets::say_tube(plain, a, weight, out, at))
+    Ok(entry_sheets::say_tube(plain, a, weight, out, at))
 }
 
 pub fn make_transfer(
@@ -45,7 +45,7 @@ pub fn make_transfer(
     if !is_done(a) {
         return a;
     }
-    Answer::Done(entry_sheets::say_transfer(plain, a, next, cost, list, out, at))
+    Ok(entry_sheets::say_transfer(plain, a, next, cost, list, out, at))
 }
 
 pub fn make_relist(
@@ -63,7 +63,7 @@ pub fn make_relist(
     if !is_done(a) {
         return a;
     }
-    Answer::Done(entry_sheets::say_relist(plain, e, list, out, at))
+    Ok(entry_sheets::say_relist(plain, e, list, out, at))
 }
 
 pub fn withdraw_transfers(
@@ -80,5 +80,5 @@ pub fn withdraw_transfers(
     if !is_done(a) {
         return a;
     }
-    Answer::Done(effect_sheets::say_transfers_withdrawn(plain, list, out, at))
+    Ok(effect_sheets::say_transfers_withdrawn(plain, list, out, at))
 }

@@ -6,7 +6,7 @@ use Prim.Native.Nat.{ℕ}
 use lib.Dec.{eqb}
 use Rattle.lists.specs.Tests.{bit}
 use Rattle.lists.proofs.Tab.{length-tab}
-use Rattle.layout.specs.declared.Answer.{Answer}
+use Rattle.layout.specs.Answers.{Answer}
 use Rattle.layout.specs.Content.{Table}
 use Rattle.layout.specs.Layout.{limit, next_vertex_in, next_hyperedge_in, vertex_count, hyperedge_count, read}
 use Rattle.layout.specs.Inner.{Formed}

@@ -12,14 +12,14 @@ ghost use Rattle.wording.specs.Pages.{page, write};
 ghost use Rattle.wording.specs.Forms.{filled};
 ghost use Rattle.check_sheets.specs.Check.{yes_no, checked, check_lines, check_sheet};
 
-use layout::Answer;
+use layout::{Answer, Reply};
 use wording::put_form;
 
 // Whether an answer of yes or no is yes.
 fn is_yes(a: Answer) -> bool
     ensures { result ≡ eqb (detail a) 1 }
 {
-    let r = layout::reply_of(a);
+    let r = Reply::from(a);
     r.detail == 1
 }
 

@@ -2,7 +2,6 @@
 #![tactic(auto)]
 
 ghost use Rattle.std.specs.Prelude.{◌≡◌, true, ◌<◌, ◌+◌, ◌*◌, length, get_or, set};
-ghost use Rattle.layout.specs.declared.Found.TheVariants.{At};
 ghost use Rattle.layout.specs.Content.{live_vertices, is_live, position};
 ghost use Rattle.layout.specs.Layout.{limit, vertex_limit, hyperedge_count, read};
 ghost use Rattle.layout.specs.Inner.{Formed};
@@ -12,7 +11,7 @@ ghost use Rattle.paths.specs.Paths.{lighter};
 ghost use Rattle.lists.specs.Lists.{facing, word_at};
 ghost use Rattle.paths.specs.Choices.{Weights, Choosing, Chosen};
 
-use layout::{Found, VertexIndex};
+use layout::VertexIndex;
 
 // The weights of the hyperedges, by place.
 pub fn weights(t: &[u32], w: &mut [u32; 256])
@@ -22,10 +21,8 @@ pub fn weights(t: &[u32], w: &mut [u32; 256])
     let blank = [0u32; 256];
     *w = blank;
     let k = layout::hyperedge_count(t);
-    let mut j = 0;
-    while j < k {
+    for j in 0..k {
         w[j + 1] = layout::hyperedge_weight(t, j);
-        j += 1;
     }
 }
 
@@ -33,13 +30,9 @@ pub fn weights(t: &[u32], w: &mut [u32; 256])
 fn place(t: &[u32], x: u32) -> usize
     requires formed { Formed limit t.now }
     requires x_value { is_live (live_vertices (read limit t.now)) x ≡ true }
-    ensures { position x (live_vertices (read limit t.now)) ≡ At result }
+    ensures { position x (live_vertices (read limit t.now)) ≡ Some result }
 {
-    let f = find::find_vertex(t, VertexIndex(x));
-    match f {
-        Found::Nothing => 0,
-        Found::At(i) => i,
-    }
+    find::find_vertex(t, VertexIndex(x)).unwrap_or(0)
 }
 
 // The weight at place h.
@@ -121,12 +114,10 @@ fn choose_record(
     let k = (j + 1) as u8;
     let ms = layout::members_formed(t, j);
     let mut a = place(t, ms[0]);
-    let mut i = 0;
-    while i + 1 < ms.len() {
+    for i in 0..ms.len() - 1 {
         let b = place(t, ms[i + 1]);
         choose_step(back, w, k, a, b, c, lists, counts);
         a = b;
-        i += 1;
     }
 }
 
@@ -148,9 +139,7 @@ pub fn choices(
     let none = [0u32; 256];
     *counts = none;
     let k = layout::hyperedge_count(t);
-    let mut j = 0;
-    while j < k {
+    for j in 0..k {
         choose_record(back, t, w, j, c, lists, counts);
-        j += 1;
     }
 }

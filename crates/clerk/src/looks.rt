@@ -1,6 +1,7 @@
 // Commands that change nothing: the text is read, and the sheet printed.
 use clerk_files::{TEXT, part};
 use command_sheets::Manner;
+use layout::Refusal;
 use std::io;
 
 // What a run ends with.
@@ -32,8 +33,8 @@ pub fn load(
 ) -> bool {
     let read = desk_anew::desk_read_frames(t, s, text);
     match read {
-        layout::Answer::Done(_) => {}
-        layout::Answer::BadText(line) => {
+        Ok(_) => {}
+        Err(Refusal::BadText(line)) => {
             say_faulty(rt, name, text, line);
             return false;
         }
@@ -45,8 +46,8 @@ pub fn load(
     }
     let stated = read_states::read_states(t, states, s);
     match stated {
-        layout::Answer::Done(_) => true,
-        layout::Answer::BadText(line) => {
+        Ok(_) => true,
+        Err(Refusal::BadText(line)) => {
             say_faulty(rt, desk, states, line);
             false
         }
@@ -58,7 +59,7 @@ pub fn load(
 pub fn written(t: &[u32], text: &mut [u8]) -> usize {
     let a = write_frames::write_frames(t, text);
     match a {
-        layout::Answer::Done(n) => n,
+        Ok(n) => n,
         _ => 0,
     }
 }

@@ -3,7 +3,7 @@
 use mathlib.Core.Path.{◌≡◌, refl, sym, ap, ◌∙◌}
 use mathlib.Core.List.{List, []}
 use Prim.Native.Nat.{ℕ}
-use Rattle.layout.specs.declared.Answer.{Answer}
+use Rattle.layout.specs.Answers.{Answer}
 use Rattle.layout.specs.Answers.{number, detail, Result, result_of}
 use Rattle.layout.proofs.Answers.{agree}
 use Rattle.desk.specs.Desk.{Desk, desk_of, Outcome, outcome}

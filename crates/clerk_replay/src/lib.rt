@@ -55,6 +55,7 @@ fn replay_line(
 fn replay_lines(rt: &impl Print, t: &mut [u32], s: &mut [u32], commands: &[u8]) -> io::Result<()> {
     let mut makes = true;
     let mut at = 0;
+    // counts no index: it goes from the beginning of one line to the next
     while at < commands.len() {
         let end = text_lines::line_end(commands, at);
         replay_line(rt, t, s, &commands[at..end], makes)?;

@@ -10,7 +10,7 @@ ghost use Rattle.steps.specs.Ordered.{Ordered};
 ghost use Rattle.rings.specs.Search.{ring_of};
 ghost use Rattle.closed_walk.specs.Named.{closed_walk_result};
 
-use layout::Answer;
+use layout::{Answer, Refusal};
 
 // The closed walk by record, in the first places of `order`.
 fn walk_records(t: &[u32], order: &mut [u32; 256]) -> usize
@@ -37,7 +37,7 @@ pub fn closed_walk(t: &[u32], out: &mut [u32]) -> Answer
     ensures { result_of result out.new ≡ on_formed t.now out.old (closed_walk_result out.old) }
 {
     if !well_formed::well_formed(t) {
-        return Answer::NotWellFormed;
+        return Err(Refusal::NotWellFormed);
     }
     list_walk(t, out)
 }

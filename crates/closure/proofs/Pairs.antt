@@ -1,8 +1,9 @@
 -- The words of the pairs: how many there are, and how they are written. Assumes nothing.
+use Rattle.std.specs.Prelude.{Ok, Err}
 use mathlib.Core.Path.{◌≡◌, refl, sym, ap, ◌∙◌}
 use mathlib.Core.Bool.{Bool, true, false, not}
 use mathlib.Core.List.{List, [], ◌∷◌, ◌++◌, append_assoc}
-use Prim.Native.Nat.{ℕ, zero, suc, ◌+◌, ◌*◌, ◌-◌, ◌≤◌, ◌<◌}
+use Prim.Native.Nat.{ℕ, zero, suc, ◌+◌, ◌*◌, ◌≤◌, ◌<◌}
 use native.Mathlib.Nat.{le_antisymm}
 use native.Mathlib.Numerals.{add-one}
 use native.Mathlib.Omega.{arith}
@@ -15,7 +16,7 @@ use Rattle.lists.specs.Inner.{Wrote}
 use Rattle.lists.proofs.Chosen.{chosen_none, chosen-in, chosen-out, chosen-count, chosen-ext, over_none, over-more}
 use Rattle.lists.proofs.Count.{count-below}
 use Rattle.lists.proofs.Flat.{flat-snoc}
-use Rattle.layout.specs.declared.Answer.TheVariants.{Done, NoRoom}
+use Rattle.layout.specs.declared.Refusal.TheVariants.{NoRoom}
 use Rattle.layout.specs.Answers.{result_of, listed}
 use Rattle.layout.proofs.Answers.{listed-over, listed-fits}
 use Rattle.components.proofs.Blocks.{blocks-suc, blocks-ext}
@@ -121,10 +122,10 @@ module _ (f : ℕ → ℕ) (E : ℕ → ℕ → Bool) (n c : ℕ) (e : c ≡ pai
   needed : 2 * c ≡ length (pairs_words f E n)
   needed = omega (arith, pairs-upto f E n n)
 
-  pub pairs-over : (out : List ℕ) → length out < 2 * c → result_of (NoRoom (2 * c)) out ≡ listed (pairs_words f E n) out
+  pub pairs-over : (out : List ℕ) → length out < 2 * c → result_of (Err (NoRoom (2 * c))) out ≡ listed (pairs_words f E n) out
   pairs-over out l = listed-over (pairs_words f E n) out (2 * c) needed l
 
-  pub pairs-fit : (out exit : List ℕ) → 2 * c ≤ length out → exit ≡ over (pairs_words f E n) out → result_of (Done (2 * c)) exit ≡ listed (pairs_words f E n) out
+  pub pairs-fit : (out exit : List ℕ) → 2 * c ≤ length out → exit ≡ over (pairs_words f E n) out → result_of (Ok (2 * c)) exit ≡ listed (pairs_words f E n) out
   pairs-fit out exit l w = listed-fits (pairs_words f E n) out (2 * c) needed exit l w
 
   pub pairs-room : (out : List ℕ) → 2 * c ≤ length out → length (pairs_words f E n) ≤ length out

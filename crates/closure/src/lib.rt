@@ -13,17 +13,15 @@ ghost use Rattle.steps.specs.Matrices.{number_of};
 ghost use Rattle.closure.specs.Pairs.{apart, row_words, pairs_words};
 ghost use Rattle.closure.specs.State.{Copied, Closure, pairs_below};
 
-use layout::Answer;
+use layout::{Answer, Refusal};
 
 // Row x of the matrix takes the marks.
 fn copy_row(c: &mut [u8; 65536], n: usize, x: usize, marks: &[u8; 256])
     requires { (n ≤ vertex_limit) × (x < vertex_limit) × (length c.old ≡ vertex_limit * vertex_limit) }
     ensures { Copied x n marks.now c.old c.new }
 {
-    let mut v = 0;
-    while v < n {
+    for v in 0..n {
         c[x * 256 + v] = marks[v];
-        v += 1;
     }
 }
 
@@ -33,11 +31,9 @@ pub fn close(adj: &[u8; 65536], n: usize, c: &mut [u8; 65536])
     ensures { Closure (matrix adj.now) n n c.new }
 {
     let mut marks = [0u8; 256];
-    let mut x = 0;
-    while x < n {
+    for x in 0..n {
         graph::marks_from(adj, n, x, &mut marks);
         copy_row(c, n, x, &marks);
-        x += 1;
     }
 }
 
@@ -58,12 +54,10 @@ fn count_row(m: &[u8; 65536], n: usize, x: usize) -> usize
     ensures { result ≡ count (apart (matrix m.now) x) n }
 {
     let mut c = 0;
-    let mut y = 0;
-    while y < n {
+    for y in 0..n {
         if is_pair(m, x, y) {
             c += 1;
         }
-        y += 1;
     }
     c
 }
@@ -74,10 +68,8 @@ fn count_pairs(m: &[u8; 65536], n: usize) -> usize
     ensures { (result ≡ pairs_below (matrix m.now) n n) × (result ≤ n * vertex_limit) }
 {
     let mut c = 0;
-    let mut x = 0;
-    while x < n {
+    for x in 0..n {
         c += count_row(m, n, x);
-        x += 1;
     }
     c
 }
@@ -90,14 +82,12 @@ fn write_row(t: &[u32], m: &[u8; 65536], n: usize, x: usize, part: &mut [u32]) -
 {
     let from = layout::vertex_number(t, x);
     let mut i = 0;
-    let mut y = 0;
-    while y < n {
+    for y in 0..n {
         if is_pair(m, x, y) {
             part[i] = from;
             part[i + 1] = layout::vertex_number(t, y);
             i += 2;
         }
-        y += 1;
     }
     i
 }
@@ -109,10 +99,8 @@ fn write_pairs(t: &[u32], m: &[u8; 65536], n: usize, out: &mut [u32])
     ensures { out.new ≡ over (pairs_words (number_of (read limit t.now)) (matrix m.now) n) out.old }
 {
     let mut at = 0;
-    let mut x = 0;
-    while x < n {
+    for x in 0..n {
         at += write_row(t, m, n, x, &mut out[at..]);
-        x += 1;
     }
 }
 
@@ -124,8 +112,8 @@ pub fn list_pairs(t: &[u32], m: &[u8; 65536], n: usize, out: &mut [u32]) -> Answ
 {
     let need = 2 * count_pairs(m, n);
     if out.len() < need {
-        return Answer::NoRoom(need);
+        return Err(Refusal::NoRoom(need));
     }
     write_pairs(t, m, n, out);
-    Answer::Done(need)
+    Ok(need)
 }

@@ -1,4 +1,5 @@
 -- From the case of a command to what is said of it. Assumes nothing.
+use Rattle.std.specs.Prelude.{Ok}
 use mathlib.Core.Path.{◌≡◌, refl, sym, ap, ◌∙◌}
 use mathlib.Core.Bool.{Bool, true, false, not}
 use mathlib.Core.List.{List, [], ◌∷◌}
@@ -8,8 +9,7 @@ use lib.Dec.{eqb}
 use lib.ListN.{length, drop}
 use borrow.Author.Tests.{not-true, not-false}
 use Rattle.lists.specs.Tests.{◌and◌}
-use Rattle.layout.specs.declared.Answer.{Answer}
-use Rattle.layout.specs.declared.Answer.TheVariants.{Done}
+use Rattle.layout.specs.Answers.{Answer}
 use Rattle.layout.specs.Answers.{Result, result_of}
 use Rattle.desk.specs.Desk.{Desk}
 use Rattle.wording.specs.Pages.{Page, page}
@@ -65,5 +65,5 @@ init-misused how i b c e f = ap not f ∙ sym (ap (λ (x : Command). is_misused 
 pub said-told : (d : Desk) (a : Answer) (b : List ℕ) (x : Result) → result_of a b ≡ x → told a d b ≡ told_of d x
 said-told d a b x e = ap (told_of d) e
 
-pub page-told : (d : Desk) (b : List ℕ) (r : ℕ) (p : Page) → page b r ≡ p → told (Done r) d b ≡ told_of d (paged p)
+pub page-told : (d : Desk) (b : List ℕ) (r : ℕ) (p : Page) → page b r ≡ p → told (Ok r) d b ≡ told_of d (paged p)
 page-told d b r p e = ap (λ (x : Page). told_of d (paged x)) e

@@ -81,20 +81,20 @@ pub fn tell(
 {
     let plain = how.plain;
     match c {
-        Command::Init => Answer::Done(put_made(name, out, at)),
+        Command::Init => Ok(put_made(name, out, at)),
         Command::Ask(q) => query_sheets::put_query(t, q, plain, out, at),
         Command::View(look) => look_sheets::put_look(t, s, look, ns, plain, out, at),
         Command::Make(change) => {
             let list = list_of(change, ns);
             change_sheets::make_change(t, s, change, list, plain, out, at)
         }
-        Command::Help => Answer::Done(help_texts::put_help(out, at)),
-        Command::HelpOn(k) => Answer::Done(help_texts::put_help_on(k, out, at)),
-        Command::Version => Answer::Done(help_texts::put_version(out, at)),
-        Command::Unknown => Answer::Done(at),
-        Command::NotNumber(_) => Answer::Done(at),
-        Command::WrongCount(_) => Answer::Done(at),
-        Command::TooMany => Answer::Done(at),
+        Command::Help => Ok(help_texts::put_help(out, at)),
+        Command::HelpOn(k) => Ok(help_texts::put_help_on(k, out, at)),
+        Command::Version => Ok(help_texts::put_version(out, at)),
+        Command::Unknown => Ok(at),
+        Command::NotNumber(_) => Ok(at),
+        Command::WrongCount(_) => Ok(at),
+        Command::TooMany => Ok(at),
     }
 }
 

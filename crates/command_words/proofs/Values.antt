@@ -30,9 +30,9 @@ module _ (line : List ℕ) (i whole : ℕ) (inv : i + length (first_word (drop i
       let e : i + suc (length (first_word (drop (suc i) line))) ≡ whole = rw (drop-cons line i 0 h, ne_eqb (get_or line i 0) blank nb) at inv in
       rw (add-one i) (omega arith)
 
-  pub word-last : length line ≤ i → i ≡ whole
+  pub word-last : length line ≤ i → i ≤ length line → length line ≡ whole
   unfolding first_word
-  word-last h =
+  word-last h m =
       let e : i + 0 ≡ whole = rw (drop_of_length-le line {i = i} h) at inv in
       omega arith
 

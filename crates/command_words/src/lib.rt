@@ -18,14 +18,12 @@ fn word_end(line: &[u8], from: usize) -> usize
     requires { from ≤ length line.now }
     ensures { result ≡ from + length (first_word (drop from line.now)) }
 {
-    let mut i = from;
-    while i < line.len() {
+    for i in from..line.len() {
         if line[i] == b' ' {
             return i;
         }
-        i += 1;
     }
-    i
+    line.len()
 }
 
 fn wide(c: u8) -> usize
@@ -42,8 +40,7 @@ fn value(word: &[u8]) -> usize
         return NO_NUMBER;
     }
     let mut n = 0;
-    let mut i = 0;
-    while i < word.len() {
+    for i in 0..word.len() {
         let c = wide(word[i]);
         if c < 48 {
             return NO_NUMBER;
@@ -55,7 +52,6 @@ fn value(word: &[u8]) -> usize
         if LARGEST < n {
             return NO_NUMBER;
         }
-        i += 1;
     }
     n
 }
@@ -85,6 +81,7 @@ pub fn scan(line: &[u8], start: usize, numbers: &mut [u32; MOST]) -> Scanned
 {
     let mut at = start;
     let mut seen = 0;
+    // counts no index: it goes from the end of one word to the end of the next
     while at < line.len() {
         let from = at + 1;
         let end = word_end(line, from);

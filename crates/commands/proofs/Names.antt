@@ -1,12 +1,14 @@
 -- The names: the table of the code, a line that opens with one, the first of them that a line opens with. Assumes nothing.
+use Rattle.std.specs.Prelude.{Option, Some, None}
 use mathlib.Core.Path.{◌≡◌, refl, sym, ap, ◌∙◌}
 use mathlib.Core.Bool.{Bool, true, false, not}
 use mathlib.Core.List.{List, [], ◌∷◌}
 use Prim.Native.Nat.{ℕ, zero, suc, ◌+◌, ◌-◌, ◌≤◌, ◌<◌, suc-le-suc}
 use native.Mathlib.Nat.{zero-lt-suc}
 use native.Mathlib.Omega.{arith}
-use lib.Dec.{ltb}
+use lib.Dec.{eqb, ltb}
 use lib.ListN.{length, get_or, take, drop, replicate, length-append, length-take}
+use lib.Pointwise.{pointwise}
 use lib.Seq.{take_at, take_all}
 use borrow.Author.Tests.{ltb-true, not-true, not-false, le-leb, lt-leb, eq-eqb, ne_eqb}
 use Rattle.lists.specs.Tests.{◌and◌, every}
@@ -14,14 +16,23 @@ use Rattle.lists.specs.Lists.{same_list, tab}
 use Rattle.lists.proofs.Cases.{on, on_same, on_below, and_both, and_left, and-false-left, and-false-right}
 use Rattle.lists.proofs.Every.{every-at}
 use Rattle.lists.proofs.Tab.{length-tab, getD-tab}
-use Rattle.layout.specs.declared.Found.{Found}
-use Rattle.layout.specs.declared.Found.TheVariants.{At, Nothing}
 use Rattle.edits.specs.Results.{first_passing, first_passing_from}
 use Rattle.edits.proofs.Identical.{same-not-long}
 use Rattle.edits.proofs.Passing.{passing-on, passing-here, passing-none}
 use Rattle.commands.specs.Words.{blank}
 use Rattle.commands.specs.Commands.{forms, command_count, names, form_at, name_at, ends_at, opens_with, named}
 use Rattle.commands.specs.Inner.{opened, widest, padded, Opens}
+
+-- ---- `==` on bytes
+
+pub pointwise-same : (a b : List ℕ) (r : Bool) → r ≡ pointwise eqb a b → r ≡ same_list a b
+unfolding same_list ◌and◌
+pointwise-same [] [] r e = e
+pointwise-same [] (y ∷ ys) r e = e
+pointwise-same (x ∷ xs) [] r e = e
+pointwise-same (x ∷ xs) (y ∷ ys) r e = on (eqb x y)
+    (λ q. rw q (pointwise-same xs ys r (rw q at e)))
+    (λ q. rw q (rw q at e))
 
 -- ---- a line that opens with a name
 
@@ -103,7 +114,7 @@ pub names-first : (p : List ℕ → Bool) → first_passing_from p 0 (tab name_a
 unfolding first_passing
 names-first p = ap (first_passing_from p 0) names-tab
 
-pub names-none : (p : List ℕ → Bool) (k : ℕ) (whole : Found) → first_passing_from p k (drop k (tab name_at command_count)) ≡ whole → command_count ≤ k → Nothing ≡ whole
+pub names-none : (p : List ℕ → Bool) (k : ℕ) (whole : Option ℕ) → first_passing_from p k (drop k (tab name_at command_count)) ≡ whole → command_count ≤ k → None ≡ whole
 names-none p k whole inv h = passing-none p name_at command_count k whole inv command_count refl h
 
 -- that a line opens with: r is the length of name k, or 0
@@ -114,15 +125,15 @@ module _ (line : List ℕ) (k r : ℕ) (e : r ≡ opened line (name_at k)) where
   opens-unless : k < command_count → r ≡ 0 → opens_with line (name_at k) ≡ false
   opens-unless h z = on (opens_with line (name_at k)) (λ q. absurd (omega (arith, name-some k h, opens-so line (name_at k) q))) (λ q. q)
 
-  module _ (whole : Found) (inv : first_passing_from (opens_with line) k (drop k (tab name_at command_count)) ≡ whole) (h : k < command_count) where
-    pub name-here : (r ≡ 0 → ⊥) → At k ≡ whole
+  module _ (whole : Option ℕ) (inv : first_passing_from (opens_with line) k (drop k (tab name_at command_count)) ≡ whole) (h : k < command_count) where
+    pub name-here : (r ≡ 0 → ⊥) → Some k ≡ whole
     name-here ne = passing-here (opens_with line) name_at command_count k whole inv command_count refl (opens_with line (name_at k)) refl h (opens-if ne)
 
     pub name-on : r ≡ 0 → first_passing_from (opens_with line) (k + 1) (drop (k + 1) (tab name_at command_count)) ≡ whole
     name-on z = passing-on (opens_with line) name_at command_count k whole inv command_count refl (opens_with line (name_at k)) refl h (opens-unless h z)
 
 -- that is the bytes
-pub exact_none : (bytes : List ℕ) → length bytes ≡ 0 → Nothing ≡ first_passing (same_list bytes) names
+pub exact_none : (bytes : List ℕ) → length bytes ≡ 0 → None ≡ first_passing (same_list bytes) names
 unfolding forms names same_list first_passing first_passing_from
 exact_none [] e = refl
 exact_none (x ∷ xs) e = absurd (omega arith)
@@ -144,9 +155,9 @@ module _ (bytes name : List ℕ) (r : ℕ) (e : r ≡ opened bytes name) where
       (λ s. s))
       (λ l. sym (same-not-long bytes name l))
 
-module _ (bytes : List ℕ) (k r : ℕ) (e : r ≡ opened bytes (name_at k)) (whole : Found)
+module _ (bytes : List ℕ) (k r : ℕ) (e : r ≡ opened bytes (name_at k)) (whole : Option ℕ)
     (inv : first_passing_from (same_list bytes) k (drop k (tab name_at command_count)) ≡ whole) (h : k < command_count) where
-  pub exact-here : 0 < length bytes → r ≡ length bytes → At k ≡ whole
+  pub exact-here : 0 < length bytes → r ≡ length bytes → Some k ≡ whole
   exact-here s q = passing-here (same_list bytes) name_at command_count k whole inv command_count refl (same_list bytes (name_at k)) refl h (exact-if bytes (name_at k) r e s q)
 
   pub exact-on : (r ≡ length bytes → ⊥) → first_passing_from (same_list bytes) (k + 1) (drop (k + 1) (tab name_at command_count)) ≡ whole
@@ -154,15 +165,15 @@ module _ (bytes : List ℕ) (k r : ℕ) (e : r ≡ opened bytes (name_at k)) (wh
 
 -- ---- a name that was found
 
-found_at : {A : Type 0} (p : A → Bool) (d : A) (i : ℕ) (xs : List A) (k : ℕ) → first_passing_from p i xs ≡ At k
+found_at : {A : Type 0} (p : A → Bool) (d : A) (i : ℕ) (xs : List A) (k : ℕ) → first_passing_from p i xs ≡ Some k
     → (j : ℕ) × (k ≡ i + j) × (j < length xs) × (p (get_or xs j d) ≡ true)
 unfolding first_passing_from
 found_at p d i [] k e = absurd (let z : ◌≡◌ {A = ℕ} 0 1 = cc in omega arith)
 found_at p d i (x ∷ xs) k e = on (p x)
-    (λ m. let f : At i ≡ At k = rw m at e in let g : i ≡ k = cc in (zero, omega arith, zero-lt-suc (length xs), m))
+    (λ m. let f : Some i ≡ Some k = rw m at e in let g : i ≡ k = cc in (zero, omega arith, zero-lt-suc (length xs), m))
     (λ m. let q = found_at p d (suc i) xs k (rw m at e) in (suc q.0, omega (arith, q.1), suc-le-suc q.2, q.3))
 
-pub opens-found : (line : List ℕ) (f : Found) (k : ℕ) → f ≡ named line → f ≡ At k → Opens line k
+pub opens-found : (line : List ℕ) (f : Option ℕ) (k : ℕ) → f ≡ named line → f ≡ Some k → Opens line k
 unfolding named
 opens-found line f k e q =
     let s = found_at (opens_with line) [] 0 (tab name_at command_count) k (names-first (opens_with line) ∙ sym e ∙ q) in

@@ -1,10 +1,8 @@
 -- What a line of commands asks for: the table of commands, the command of a line and its numbers. Assumes nothing.
-use Rattle.std.specs.Prelude.{◌≡◌, Bool, cond, ◌||◌, List, [], ◌∷◌, map, ℕ, suc, eqb, ltb, leb, length, get_or, take, drop}
+use Rattle.std.specs.Prelude.{◌≡◌, Bool, cond, ◌||◌, List, [], ◌∷◌, map, ℕ, suc, eqb, ltb, leb, length, get_or, take, drop, Option, Some, None}
 use Prim.Native.String.{String}
 use Rattle.lists.specs.Tests.{◌and◌}
 use Rattle.lists.specs.Lists.{all, same_list, word_at, over}
-use Rattle.layout.specs.declared.Found.{Found}
-use Rattle.layout.specs.declared.Found.TheVariants.{At, Nothing}
 use Rattle.layout.specs.declared.VertexIndex.{VertexIndex}
 use Rattle.layout.specs.declared.HyperedgeIndex.{HyperedgeIndex}
 use Rattle.edits.specs.Results.{first_passing}
@@ -106,7 +104,7 @@ unfoldable pub opens_with : List ℕ → List ℕ → Bool
 opens_with line name = same_list (take (length name) line) name and ends_at line (length name)
 
 -- the number of the line's command: the first of the names that it opens with
-unfoldable pub named : List ℕ → Found
+unfoldable pub named : List ℕ → Option ℕ
 named line = first_passing (opens_with line) names
 
 -- what follows the name of command k
@@ -116,9 +114,9 @@ behind_name k line = drop (length (name_at k)) line
 -- ---- the numbers of a line
 
 -- the words behind the line's name; a line with no name has none
-unfoldable pub words_by : List ℕ → Found → List (List ℕ)
-words_by line Nothing = []
-words_by line (At k) = words_behind (behind_name k line)
+unfoldable pub words_by : List ℕ → Option ℕ → List (List ℕ)
+words_by line None = []
+words_by line (Some k) = words_behind (behind_name k line)
 
 -- the numbers before the first word that is none, as many as a line may have
 unfoldable pub numbers_on : List ℕ → List ℕ
@@ -140,9 +138,9 @@ asked k ns =
 unfoldable pub asked_by : ℕ → List (List ℕ) → Command
 asked_by k ws = cond (all is_number ws) (asked k (leading ws)) (NotNumber (suc (length (leading ws))))
 
-unfoldable pub help_by : Found → Command
-help_by Nothing = Unknown
-help_by (At k) = HelpOn k
+unfoldable pub help_by : Option ℕ → Command
+help_by None = Unknown
+help_by (Some k) = HelpOn k
 
 -- help alone, or on the name that follows it; anything else is no command
 unfoldable pub help_on : List ℕ → Command
@@ -150,9 +148,9 @@ help_on [] = Help
 help_on (c ∷ cs) = help_by (first_passing (same_list cs) names)
 
 -- a line with no name is no command; help is followed by a name, every other command by numbers
-unfoldable pub command_by : List ℕ → Found → Command
-command_by line Nothing = Unknown
-command_by line (At k) = cond (eqb k help_number) (help_on (behind_name k line)) (asked_by k (words_behind (behind_name k line)))
+unfoldable pub command_by : List ℕ → Option ℕ → Command
+command_by line None = Unknown
+command_by line (Some k) = cond (eqb k help_number) (help_on (behind_name k line)) (asked_by k (words_behind (behind_name k line)))
 
 -- the command of a line. Of several faults the first in this order is told: a word that is no number, too many numbers, a wrong count
 unfoldable pub command_on : List ℕ → Command

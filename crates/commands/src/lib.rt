@@ -7,7 +7,7 @@ ghost use Rattle.edits.specs.Results.{first_passing};
 ghost use Rattle.commands.specs.Commands.{command_count, names, name_at, named};
 ghost use Rattle.commands.specs.Inner.{opened, padded};
 
-use layout::{Found, HyperedgeIndex, VertexIndex};
+use layout::{HyperedgeIndex, VertexIndex};
 
 // Questions whose answer is a listing.
 #[derive(Clone, Copy)]
@@ -164,17 +164,7 @@ pub struct Parsed {
 fn same_bytes(a: &[u8], b: &[u8]) -> bool
     ensures { result ≡ same_list a.now b.now }
 {
-    if a.len() != b.len() {
-        return false;
-    }
-    let mut i = 0;
-    while i < a.len() {
-        if a[i] != b[i] {
-            return false;
-        }
-        i += 1;
-    }
-    true
+    a == b
 }
 
 // The length of the name where the line opens with it, else 0.
@@ -223,32 +213,28 @@ fn opening(k: usize, line: &[u8]) -> usize
 }
 
 // The number of the line's command: the first of the names that the line opens with.
-pub fn find_name(line: &[u8]) -> Found
+pub fn find_name(line: &[u8]) -> Option<usize>
     ensures { result ≡ named line.now }
 {
-    let mut k = 0;
-    while k < COMMANDS {
+    for k in 0..COMMANDS {
         if opening(k, line) != 0 {
-            return Found::At(k);
+            return Some(k);
         }
-        k += 1;
     }
-    Found::Nothing
+    None
 }
 
 // The number of the command whose name the bytes are.
-pub fn find_exact(bytes: &[u8]) -> Found
+pub fn find_exact(bytes: &[u8]) -> Option<usize>
     ensures { result ≡ first_passing (same_list bytes.now) names }
 {
     if bytes.len() == 0 {
-        return Found::Nothing;
+        return None;
     }
-    let mut k = 0;
-    while k < COMMANDS {
+    for k in 0..COMMANDS {
         if opening(k, bytes) == bytes.len() {
-            return Found::At(k);
+            return Some(k);
         }
-        k += 1;
     }
-    Found::Nothing
+    None
 }

@@ -10,19 +10,17 @@ ghost use Rattle.components.specs.Parts.{flagged};
 ghost use Rattle.structural.specs.Components.{connected_result, connected_components_result, strong_components_result};
 ghost use Rattle.structural.specs.Closure.{closure_result};
 
-use layout::Answer;
+use layout::{Answer, Refusal};
 
 // Whether every record has a mark: 1 or 0.
 fn all_marked(marks: &[u8; 256], n: usize) -> usize
     requires { n ≤ vertex_limit }
     ensures { result ≡ bit (every (flagged marks.now) n) }
 {
-    let mut v = 0;
-    while v < n {
+    for v in 0..n {
         if marks[v] != 1 {
             return 0;
         }
-        v += 1;
     }
     1
 }
@@ -33,13 +31,13 @@ fn connected(t: &[u32]) -> Answer
 {
     let n = layout::vertex_count(t);
     if n == 0 {
-        return Answer::Done(1);
+        return Ok(1);
     }
     let mut m = [0u8; 65536];
     steps::link_matrix(t, &mut m);
     let mut marks = [0u8; 256];
     graph::marks_from(&m, n, 0, &mut marks);
-    Answer::Done(all_marked(&marks, n))
+    Ok(all_marked(&marks, n))
 }
 
 // Whether the table is empty, or all vertices are linked through co-membership: 1 or 0.
@@ -47,7 +45,7 @@ pub fn is_connected(t: &[u32]) -> Answer
     ensures { result_of result [] ≡ on_formed t.now [] connected_result }
 {
     if !well_formed::well_formed(t) {
-        return Answer::NotWellFormed;
+        return Err(Refusal::NotWellFormed);
     }
     connected(t)
 }
@@ -69,7 +67,7 @@ pub fn connected_components(t: &[u32], out: &mut [u32]) -> Answer
     ensures { result_of result out.new ≡ on_formed t.now out.old (connected_components_result out.old) }
 {
     if !well_formed::well_formed(t) {
-        return Answer::NotWellFormed;
+        return Err(Refusal::NotWellFormed);
     }
     list_connected(t, out)
 }
@@ -93,7 +91,7 @@ pub fn strongly_connected_components(t: &[u32], out: &mut [u32]) -> Answer
     ensures { result_of result out.new ≡ on_formed t.now out.old (strong_components_result out.old) }
 {
     if !well_formed::well_formed(t) {
-        return Answer::NotWellFormed;
+        return Err(Refusal::NotWellFormed);
     }
     list_strong(t, out)
 }
@@ -115,7 +113,7 @@ pub fn get_transitive_closure(t: &[u32], out: &mut [u32]) -> Answer
     ensures { result_of result out.new ≡ on_formed t.now out.old (closure_result out.old) }
 {
     if !well_formed::well_formed(t) {
-        return Answer::NotWellFormed;
+        return Err(Refusal::NotWellFormed);
     }
     list_closure(t, out)
 }

@@ -1,4 +1,5 @@
 -- Lists of words one after the other, each written into the part of a slice after the one before; and the words of all classes. Assumes nothing.
+use Rattle.std.specs.Prelude.{Ok, Err}
 use mathlib.Core.Path.{◌≡◌, refl, sym, ap, ap₂, ◌∙◌}
 use mathlib.Core.Bool.{Bool}
 use mathlib.Core.List.{List, [], ◌∷◌, ◌++◌, map}
@@ -18,7 +19,7 @@ use Rattle.lists.proofs.Flat.{flat-snoc, tab-getD}
 use Rattle.lists.proofs.Parts.{part-tail, back-tail}
 use Rattle.lists.proofs.Count.{count-all, count_none}
 use Rattle.lists.proofs.Chosen.{chosen-ext, over_none, over-more, over-part, over-length}
-use Rattle.layout.specs.declared.Answer.TheVariants.{Done, NoRoom}
+use Rattle.layout.specs.declared.Refusal.TheVariants.{NoRoom}
 use Rattle.layout.specs.Answers.{result_of, listed}
 use Rattle.layout.proofs.Answers.{listed-over, listed-fits}
 use Rattle.marks.proofs.Marked.{picked-length}
@@ -157,10 +158,10 @@ module _ (f : ℕ → ℕ) (ids : List ℕ) (n c : ℕ) (h : Filled n c ids) whe
   words-number = omega (arith, words-upto c, count-all (is_within ids c) n (λ v l. le-leb (get_or ids v 0) c (h v l).1))
 
   -- need is what the code counted
-  pub classes-over : (out : List ℕ) (need : ℕ) → need ≡ n + c → length out < need → result_of (NoRoom need) out ≡ listed (part_words f ids n c) out
+  pub classes-over : (out : List ℕ) (need : ℕ) → need ≡ n + c → length out < need → result_of (Err (NoRoom need)) out ≡ listed (part_words f ids n c) out
   classes-over out need e l = listed-over (part_words f ids n c) out need (e ∙ words-number) l
 
-  pub classes-fit : (out : List ℕ) (need : ℕ) → need ≡ n + c → need ≤ length out → (exit : List ℕ) → exit ≡ over (part_words f ids n c) out → result_of (Done need) exit ≡ listed (part_words f ids n c) out
+  pub classes-fit : (out : List ℕ) (need : ℕ) → need ≡ n + c → need ≤ length out → (exit : List ℕ) → exit ≡ over (part_words f ids n c) out → result_of (Ok need) exit ≡ listed (part_words f ids n c) out
   classes-fit out need e l exit w = listed-fits (part_words f ids n c) out need (e ∙ words-number) exit l w
 
   pub classes-room : (out : List ℕ) (need : ℕ) → need ≡ n + c → need ≤ length out → length (part_words f ids n c) ≤ length out

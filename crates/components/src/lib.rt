@@ -13,7 +13,7 @@ ghost use Rattle.steps.specs.Matrices.{number_of};
 ghost use Rattle.components.specs.Classes.{reached};
 ghost use Rattle.components.specs.Parts.{flagged, in_class, Joined, Tried, Partition, Filled, part_words};
 
-use layout::Answer;
+use layout::{Answer, Refusal};
 
 fn either(was: u32, mark: u8, k: u32) -> u32
     ensures { result ≡ cond (eqb mark 1) k was }
@@ -26,10 +26,8 @@ pub fn join(marks: &[u8; 256], n: usize, k: u32, ids: &mut [u32; 256])
     requires { (n ≤ vertex_limit) × (length ids.old ≡ vertex_limit) }
     ensures { Joined (flagged marks.now) n k ids.old ids.new }
 {
-    let mut v = 0;
-    while v < n {
+    for v in 0..n {
         ids[v] = either(ids[v], marks[v], k);
-        v += 1;
     }
 }
 
@@ -55,10 +53,8 @@ pub fn part_linked(adj: &[u8; 65536], n: usize, ids: &mut [u32; 256]) -> u32
     let blank = [0u32; 256];
     *ids = blank;
     let mut c = 0;
-    let mut r = 0;
-    while r < n {
+    for r in 0..n {
         c = try_root(adj, n, r, c, ids);
-        r += 1;
     }
     c
 }
@@ -69,12 +65,10 @@ fn class_size(ids: &[u32; 256], n: usize, k: u32) -> u32
     ensures { result ≡ count (in_class ids.now k) n }
 {
     let mut c = 0;
-    let mut v = 0;
-    while v < n {
+    for v in 0..n {
         if ids[v] == k {
             c += 1;
         }
-        v += 1;
     }
     c
 }
@@ -86,13 +80,11 @@ fn write_members(t: &[u32], ids: &[u32; 256], n: usize, k: u32, part: &mut [u32]
     ensures { part.new ≡ over (map (number_of (read limit t.now)) (chosen (in_class ids.now k) n)) part.old }
 {
     let mut c = 0;
-    let mut v = 0;
-    while v < n {
+    for v in 0..n {
         if ids[v] == k {
             part[c] = layout::vertex_number(t, v);
             c += 1;
         }
-        v += 1;
     }
 }
 
@@ -115,10 +107,8 @@ fn write_classes(t: &[u32], ids: &[u32; 256], n: usize, c: u32, out: &mut [u32])
     ensures { out.new ≡ over (part_words (number_of (read limit t.now)) ids.now n c) out.old }
 {
     let mut at = 0;
-    let mut k = 0;
-    while k < c {
+    for k in 0..c {
         at += write_class(t, ids, n, k + 1, &mut out[at..]);
-        k += 1;
     }
 }
 
@@ -130,8 +120,8 @@ pub fn list_classes(t: &[u32], ids: &[u32; 256], n: usize, c: u32, out: &mut [u3
 {
     let need = n + c as usize;
     if out.len() < need {
-        return Answer::NoRoom(need);
+        return Err(Refusal::NoRoom(need));
     }
     write_classes(t, ids, n, c, out);
-    Answer::Done(need)
+    Ok(need)
 }

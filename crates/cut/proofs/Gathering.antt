@@ -1,4 +1,5 @@
 -- The matrix of co-membership while the lists are gone through: one pair more, one list more, all lists. Assumes nothing.
+use Rattle.std.specs.Prelude.{Option, Some, None, unwrap_or}
 use mathlib.Core.Path.{◌≡◌, refl, sym, ap, ap₂, ◌∙◌, subst}
 use mathlib.Core.Bool.{Bool, true, false, ◌||◌, or_assoc}
 use mathlib.Core.List.{List, [], ◌∷◌, ◌++◌, map}
@@ -21,8 +22,6 @@ use Rattle.lists.proofs.Tab.{length-tab, getD-tab}
 use Rattle.lists.proofs.All.{all_of}
 use Rattle.lists.proofs.Memb.{memb-at, memb-getD, below-memb}
 use Rattle.lists.proofs.Ascend.{ascending-apart}
-use Rattle.layout.specs.declared.Found.{Found}
-use Rattle.layout.specs.declared.Found.TheVariants.{At, Nothing}
 use Rattle.layout.specs.Content.{live_vertices, is_live, position, place}
 use Rattle.layout.specs.Layout.{limit, vertex_limit, vertex_count, hyperedge_count, hyperedge_at, members_at, read_hyperedges, read}
 use Rattle.layout.specs.Inner.{Formed}
@@ -38,21 +37,19 @@ use Rattle.cut.specs.State.{together_between, first_together, Gathered, Places, 
 
 -- ---- the record of a live vertex: p is what `find_vertex` found
 
-pub record-found : (live : List ℕ) (x : ℕ) (p : Found) → p ≡ position x live → (i : ℕ) → p ≡ At i → i ≡ record_of live x
+-- r is what `unwrap_or` made of p
+pub record-is : (live : List ℕ) (x : ℕ) (p : Option ℕ) → p ≡ position x live → (r : ℕ) → r ≡ unwrap_or p 0 → r ≡ record_of live x
 unfolding record_of
-record-found live x p e i h = rw (← e, h)
-
-pub record-nowhere : (live : List ℕ) (x : ℕ) (p : Found) → p ≡ position x live → p ≡ Nothing → ◌≡◌ {A = ℕ} 0 (record_of live x)
-unfolding record_of
-record-nowhere live x p e h = rw (← e, h)
+record-is live x (Some i) e r q = rw (← e) q
+record-is live x None e r q = rw (← e) q
 
 record-small : (ws : List ℕ) → Formed limit ws → (x r : ℕ) → r ≡ record_of (live_vertices (read limit ws)) x → r < vertex_limit
 unfolding record_of
 record-small ws f x r e = rw e (go (position x (live_vertices (read limit ws))) refl)
   where
-    go : (p : Found) → position x (live_vertices (read limit ws)) ≡ p → place p < vertex_limit
-    go (At i) h = omega (arith, (vertex-found limit ws x i h).0, f.shape.vertices-le)
-    go Nothing h = omega arith
+    go : (p : Option ℕ) → position x (live_vertices (read limit ws)) ≡ p → place p < vertex_limit
+    go (Some i) h = omega (arith, (vertex-found limit ws x i h).0, f.shape.vertices-le)
+    go None h = omega arith
 
 pub record-fits : (ws : List ℕ) → Formed limit ws → (x r : ℕ) → r ≡ record_of (live_vertices (read limit ws)) x → Fits w32 r
 record-fits ws f x r e = omega (arith, record-small ws f x r e)
@@ -112,15 +109,16 @@ placing-more {live} {ms} {i} {places} p s x next l ex en = record {
 }
 
 pub placing-end : (ws : List ℕ) → Formed limit ws → (j : ℕ) → j < hyperedge_count ws → (ms : List ℕ) → ms ≡ members_at limit ws j → (i : ℕ) (places : List ℕ)
-    → Placing (live_vertices (read limit ws)) ms i places → length ms ≤ i → Places (vertex_count ws) i places (map (record_of (live_vertices (read limit ws))) (members_at limit ws j))
+    → Placing (live_vertices (read limit ws)) ms i places → length ms ≤ i
+    → Places (vertex_count ws) (length ms) places (map (record_of (live_vertices (read limit ws))) (members_at limit ws j))
 placing-end ws f j h ms e i places p l =
     let live : List ℕ = live_vertices (read limit ws) in
     let s : i ≡ length ms = le_antisymm p.within l in
-    subst (λ (k : List ℕ). Places (vertex_count ws) i places (map (record_of live) k)) e
+    subst (λ (k : List ℕ). Places (vertex_count ws) (length ms) places (map (record_of live) k)) e
     (record {
-      first = p.first ∙ ap (map (record_of live)) (take_all i ms l);
-      count = s ∙ sym (map-length (record_of live) ms);
-      short = omega (arith, members-short ws f j h ms e);
+      first = ap (λ (c : ℕ). take c places) (sym s) ∙ p.first ∙ ap (map (record_of live)) (take_all i ms l);
+      count = sym (map-length (record_of live) ms);
+      short = members-short ws f j h ms e;
       below = subst (λ (n : ℕ). Below n (map (record_of live) ms)) (live-length limit ws) (records-below live (live-ascends limit ws f) ms (members-all ws f j h ms e));
     })
 

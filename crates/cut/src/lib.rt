@@ -9,18 +9,14 @@ ghost use Rattle.steps.specs.Inner.{Holds};
 ghost use Rattle.cut.specs.Cut.{record_of};
 ghost use Rattle.cut.specs.State.{together_between, Gathered, Places, with_row, with_pairs};
 
-use layout::{Found, VertexIndex};
+use layout::VertexIndex;
 
 // The record of a live vertex.
 fn record_of(t: &[u32], x: u32) -> usize
     requires { Formed limit t.now }
     ensures { result ≡ record_of (live_vertices (read limit t.now)) x }
 {
-    let f = find::find_vertex(t, VertexIndex(x));
-    match f {
-        Found::Nothing => 0,
-        Found::At(i) => i,
-    }
+    find::find_vertex(t, VertexIndex(x)).unwrap_or(0)
 }
 
 // The records of the members of hyperedge record j, each found once.
@@ -30,12 +26,10 @@ fn find_places(t: &[u32], j: usize, places: &mut [u32; layout::MEMBER_LIMIT]) ->
     ensures { Places (vertex_count t.now) result places.new (map (record_of (live_vertices (read limit t.now))) (members_at limit t.now j)) }
 {
     let ms = layout::members_formed(t, j);
-    let mut i = 0;
-    while i < ms.len() {
+    for i in 0..ms.len() {
         places[i] = record_of(t, ms[i]) as u32;
-        i += 1;
     }
-    i
+    ms.len()
 }
 
 // Marks record a together with each of the first c places.
@@ -43,10 +37,8 @@ fn mark_row(places: &[u32; layout::MEMBER_LIMIT], c: usize, a: usize, m: &mut [u
     requires { (a < vertex_limit) × Places vertex_limit c places.now (take c places.now) }
     ensures { m.new ≡ with_row a (take c places.now) m.old }
 {
-    let mut i = 0;
-    while i < c {
+    for i in 0..c {
         m[a * layout::VERTEX_LIMIT + places[i] as usize] = 1;
-        i += 1;
     }
 }
 
@@ -55,10 +47,8 @@ fn mark_pairs(places: &[u32; layout::MEMBER_LIMIT], c: usize, m: &mut [u8; 65536
     requires { Places vertex_limit c places.now (take c places.now) }
     ensures { m.new ≡ with_pairs (take c places.now) (take c places.now) m.old }
 {
-    let mut i = 0;
-    while i < c {
+    for i in 0..c {
         mark_row(places, c, places[i] as usize, m);
-        i += 1;
     }
 }
 
@@ -80,10 +70,8 @@ fn gather(t: &[u32], m: &mut [u8; 65536])
     ensures { Gathered t.now (hyperedge_count t.now) m.new }
 {
     let k = layout::hyperedge_count(t);
-    let mut j = 0;
-    while j < k {
+    for j in 0..k {
         gather_record(t, j, m);
-        j += 1;
     }
 }
 

@@ -31,12 +31,10 @@ fn first_mate(m: &[u8; 65536], n: usize, v: usize) -> usize
     requires { (n ≤ vertex_limit) × (v < n) }
     ensures { FirstMate (matrix m.now) n v result }
 {
-    let mut j = 0;
-    while j < n {
+    for j in 0..n {
         if is_mate(m, v, j) {
             return j;
         }
-        j += 1;
     }
     n
 }
@@ -46,10 +44,8 @@ fn clear_row(rest: &mut [u8; 65536], v: usize)
     requires { v < vertex_limit }
     ensures { Cleared v vertex_limit rest.old rest.new }
 {
-    let mut j = 0;
-    while j < layout::VERTEX_LIMIT {
+    for j in 0..layout::VERTEX_LIMIT {
         rest[v * layout::VERTEX_LIMIT + j] = 0;
-        j += 1;
     }
 }
 
@@ -58,10 +54,8 @@ fn restore_row(m: &[u8; 65536], rest: &mut [u8; 65536], v: usize)
     requires { (v < vertex_limit) × Cleared v vertex_limit m.now rest.old }
     ensures { rest.new ≡ m.now }
 {
-    let mut j = 0;
-    while j < layout::VERTEX_LIMIT {
+    for j in 0..layout::VERTEX_LIMIT {
         rest[v * layout::VERTEX_LIMIT + j] = m[v * layout::VERTEX_LIMIT + j];
-        j += 1;
     }
 }
 
@@ -98,12 +92,10 @@ fn all_kept(m: &[u8; 65536], n: usize, v: usize, marks: &[u8; 256]) -> bool
     requires { (n ≤ vertex_limit) × (v < n) }
     ensures { result ≡ every (is_kept (matrix m.now) v marks.now) n }
 {
-    let mut j = 0;
-    while j < n {
+    for j in 0..n {
         if !is_kept(m, v, marks, j) {
             return false;
         }
-        j += 1;
     }
     true
 }
@@ -136,10 +128,8 @@ fn judge(m: &[u8; 65536], n: usize, cuts: &mut [bool; 256])
     ensures { CutsMarked (matrix m.now) n n cuts.new }
 {
     let mut rest = *m;
-    let mut v = 0;
-    while v < n {
+    for v in 0..n {
         cuts[v] = is_cut(m, &mut rest, n, v);
-        v += 1;
     }
 }
 

@@ -26,7 +26,7 @@ fn differs(text: &[u8], line: u8) -> usize
     ensures { result ≤ 1 }
 {
     let mut t = [0u32; layout::SIZE];
-    let r = layout::reply_of(read_frames::read_frames(&mut t, text));
+    let r = layout::Reply::from(read_frames::read_frames(&mut t, text));
     if r.number == 0 {
         return apart(0, line);
     }
@@ -58,11 +58,9 @@ fn differ_at(text: &mut [u8], at: usize, lines: &[u8], from: usize) -> usize
 {
     let kept = text[at];
     let mut sum = 0;
-    let mut b = 0;
-    while b < BYTES {
+    for b in 0..BYTES {
         text[at] = byte_of(b);
         sum += differs(text, lines[from + b]);
-        b += 1;
     }
     text[at] = kept;
     sum
@@ -74,10 +72,8 @@ fn say(rt: &impl Print, what: &str, compared: usize, differing: usize) -> io::Re
 
 fn change(text: &mut [u8; 114], lines: &[u8; 58738]) -> usize {
     let mut sum = 0;
-    let mut at = 0;
-    while at < TEXT {
+    for at in 0..TEXT {
         sum += differ_at(text, at, lines, at * BYTES);
-        at += 1;
     }
     sum
 }
@@ -85,23 +81,19 @@ fn change(text: &mut [u8; 114], lines: &[u8; 58738]) -> usize {
 // The text without its byte at the place: `rest` is it without the first, and gets one byte back with each step.
 fn take_out(text: &[u8; 114], lines: &[u8; 58738]) -> usize {
     let mut rest = [0u8; 113];
-    let mut at = 0;
-    while at < 113 {
+    for at in 0..113 {
         rest[at] = text[at + 1];
-        at += 1;
     }
     take_each(text, &mut rest, lines)
 }
 
 fn take_each(text: &[u8; 114], rest: &mut [u8; 113], lines: &[u8; 58738]) -> usize {
     let mut sum = 0;
-    let mut at = 0;
-    while at < TEXT {
+    for at in 0..TEXT {
         sum += differs(rest, lines[TAKEN_AT + at]);
         if at < 113 {
             rest[at] = text[at];
         }
-        at += 1;
     }
     sum
 }
@@ -109,23 +101,19 @@ fn take_each(text: &[u8; 114], rest: &mut [u8; 113], lines: &[u8; 58738]) -> usi
 // The text with a byte more at the place: `more` has it in front first, and it moves on by one with each step.
 fn put_in(text: &[u8; 114], lines: &[u8; 58738]) -> usize {
     let mut more = [0u8; 115];
-    let mut at = 0;
-    while at < TEXT {
+    for at in 0..TEXT {
         more[at + 1] = text[at];
-        at += 1;
     }
     put_each(&mut more, lines)
 }
 
 fn put_each(more: &mut [u8; 115], lines: &[u8; 58738]) -> usize {
     let mut sum = 0;
-    let mut at = 0;
-    while at < 115 {
+    for at in 0..115 {
         sum += differ_at(more, at, lines, PUT_AT + at * BYTES);
         if at < TEXT {
             more[at] = more[at + 1];
         }
-        at += 1;
     }
     sum
 }

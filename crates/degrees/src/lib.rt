@@ -9,7 +9,7 @@ ghost use Rattle.lookups.specs.declared.Direction.TheVariants.{From, To};
 ghost use Rattle.lookups.specs.Lookups.{has_end, places, degree};
 ghost use Rattle.lookups.specs.Results.{degree_result};
 
-use layout::{Answer, Found, VertexIndex};
+use layout::{Answer, Refusal, VertexIndex};
 use lookups::{Direction, ends_at};
 
 // The places of a list at which a step leads from v, or to v.
@@ -17,13 +17,11 @@ fn places_at(ms: &[u32], v: u32, dir: Direction) -> usize
     ensures { result ≡ places (has_end dir v) ms.now }
 {
     let mut n: usize = 0;
-    let mut i = 0;
-    while i + 1 < ms.len() {
+    for i in 0..ms.len().saturating_sub(1) {
         let ends = ends_at(ms, i, dir);
         if ends.near == v {
             n += 1;
         }
-        i += 1;
     }
     n
 }
@@ -34,10 +32,8 @@ fn degree(t: &[u32], v: u32, dir: Direction) -> usize
 {
     let m = layout::hyperedge_count(t);
     let mut n = 0;
-    let mut j = 0;
-    while j < m {
+    for j in 0..m {
         n += places_at(layout::members_formed(t, j), v, dir);
-        j += 1;
     }
     n
 }
@@ -46,11 +42,8 @@ fn degree_of(t: &[u32], v: VertexIndex, dir: Direction) -> Answer
     requires { Formed limit t.now }
     ensures { result_of result [] ≡ degree_result dir v.0 (read limit t.now) }
 {
-    let f = find::find_vertex(t, v);
-    match f {
-        Found::Nothing => Answer::VertexNotLive(v),
-        Found::At(_) => Answer::Done(degree(t, v.0, dir)),
-    }
+    find::find_vertex(t, v).ok_or(Refusal::VertexNotLive(v))?;
+    Ok(degree(t, v.0, dir))
 }
 
 // The places at which the vertex is stepped to.
@@ -58,7 +51,7 @@ pub fn get_vertex_degree_in(t: &[u32], v: VertexIndex) -> Answer
     ensures { result_of result [] ≡ on_formed t.now [] (degree_result To v.0) }
 {
     if !well_formed::well_formed(t) {
-        return Answer::NotWellFormed;
+        return Err(Refusal::NotWellFormed);
     }
     degree_of(t, v, Direction::To)
 }
@@ -68,7 +61,7 @@ pub fn get_vertex_degree_out(t: &[u32], v: VertexIndex) -> Answer
     ensures { result_of result [] ≡ on_formed t.now [] (degree_result From v.0) }
 {
     if !well_formed::well_formed(t) {
-        return Answer::NotWellFormed;
+        return Err(Refusal::NotWellFormed);
     }
     degree_of(t, v, Direction::From)
 }

@@ -1,4 +1,5 @@
 -- The answer for a pair held against `is_reachable`, and the answer for a vertex and itself. Assumes nothing.
+use Rattle.std.specs.Prelude.{Ok}
 use mathlib.Core.Path.{◌≡◌, refl, sym, ◌∙◌}
 use mathlib.Core.Bool.{Bool, true, false}
 use mathlib.Core.Logic.{inl, inr}
@@ -13,7 +14,6 @@ use borrow.Author.Tests.{lt-ltb, le-leb}
 use Rattle.lists.specs.Tests.{◌and◌, bit}
 use Rattle.lists.specs.Lists.{over}
 use Rattle.lists.proofs.Cases.{on, on_below}
-use Rattle.layout.specs.declared.Answer.TheVariants.{Done}
 use Rattle.layout.specs.Content.{live_vertices, is_live}
 use Rattle.layout.specs.Layout.{limit, read}
 use Rattle.layout.specs.WellFormed.{well_formed}
@@ -34,7 +34,7 @@ use Rattle.demands.specs.Paths.{has_entries, says_yes}
 module _ {ws : List ℕ} (f : Formed limit ws) (x y : ℕ) (live : is_live (live_vertices (read limit ws)) x ≡ true) where
   -- the answer for a walk, or for none, has entries exactly when y is reachable from x
   entries_by : (lent : List ℕ) (p : Option (List ℕ)) → best_path (read limit ws) x y ≡ p
-      → has_entries (result_of (Done (length (path_words (read limit ws) x p))) (over (path_words (read limit ws) x p) lent)) ≡ reachable (read limit ws) x y
+      → has_entries (result_of (Ok (length (path_words (read limit ws) x p))) (over (path_words (read limit ws) x p) lent)) ≡ reachable (read limit ws) x y
   unfolding has_entries path_words over
   entries_by lent none e =
       on (reachable (read limit ws) x y)
@@ -86,6 +86,6 @@ own-path ws v w a = best-is-path (formed-of limit ws w) v v a [] (record { walk 
 
 -- a vertex to itself costs 0, with that one entry: exactly these words are written, and the rest is kept
 pub own-entry : (ws lent : List ℕ) (v : ℕ) → well_formed limit ws ≡ true → is_live (live_vertices (read limit ws)) v ≡ true → 5 ≤ length lent
-    → on_formed ws lent (pair_result v v lent) ≡ result_of (Done 5) (over (0 ∷ 0 ∷ 1 ∷ v ∷ 4294967295 ∷ []) lent)
+    → on_formed ws lent (pair_result v v lent) ≡ result_of (Ok 5) (over (0 ∷ 0 ∷ 1 ∷ v ∷ 4294967295 ∷ []) lent)
 unfolding on_formed pair_result on_live listed path_words entries_after
 own-entry ws lent v w a room = rw (w, a, own-path ws v w a, le-leb 5 (length lent) room)

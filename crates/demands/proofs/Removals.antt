@@ -1,4 +1,5 @@
 -- What any list of removals keeps to, over the calls. Assumes nothing.
+use Rattle.std.specs.Prelude.{Ok}
 use mathlib.Core.Path.{◌≡◌, sym, ap, ◌∙◌}
 use mathlib.Core.Bool.{true}
 use mathlib.Core.List.{List, []}
@@ -11,7 +12,6 @@ use Rattle.lists.proofs.Cases.{on, on_below}
 use Rattle.lists.proofs.Kept.{filter-length}
 use Rattle.lists.proofs.Maps.{map-length}
 use Rattle.walks.specs.Walks.{Reach}
-use Rattle.layout.specs.declared.Answer.TheVariants.{Done}
 use Rattle.layout.specs.Content.{Vertex, Table, vertex_number, live_vertices, is_live}
 use Rattle.layout.specs.Layout.{limit, read}
 use Rattle.layout.specs.WellFormed.{well_formed}
@@ -42,7 +42,7 @@ module _ (ws : List ℕ) (formed : well_formed limit ws ≡ true) (x y : ℕ) wh
   unfolding reachable_result on_live
   yes-reached e =
       let t : Table = read limit ws in
-      let r : reachable_result x y t ≡ result_of (Done 1) [] = sym (formed-result ws [] (reachable_result x y) formed) ∙ e in
+      let r : reachable_result x y t ≡ result_of (Ok 1) [] = sym (formed-result ws [] (reachable_result x y) formed) ∙ e in
       on (is_live (live_vertices t) x)
       (λ l. on (is_live (live_vertices t) y)
       (λ m. on (reachable t x y)

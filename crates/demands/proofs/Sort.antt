@@ -1,4 +1,5 @@
 -- The sort: 9 exactly where steps form a closed walk, and otherwise the smallest order. Assumes nothing.
+use Rattle.std.specs.Prelude.{Ok, Err}
 use mathlib.Core.Path.{◌≡◌, refl, sym, ap, ◌∙◌}
 use mathlib.Core.Bool.{true}
 use mathlib.Core.Logic.{⊎_elim}
@@ -7,7 +8,7 @@ use Prim.Native.Nat.{ℕ, ◌≤◌, ◌<◌}
 use lib.ListN.{length}
 use borrow.Author.Tests.{eqb-true}
 use Rattle.lists.specs.Lists.{over}
-use Rattle.layout.specs.declared.Answer.TheVariants.{Done, NoRoom}
+use Rattle.layout.specs.declared.Refusal.TheVariants.{NoRoom}
 use Rattle.layout.specs.Layout.{limit, read}
 use Rattle.layout.specs.WellFormed.{well_formed}
 use Rattle.layout.specs.Inner.{Formed}
@@ -37,10 +38,10 @@ module _ (ws lent : List ℕ) (formed : well_formed limit ws ≡ true) where
   order-listed : (l : List ℕ) → SmallestIn (read limit ws) l → sort_call ws lent ≡ listed l lent
   order-listed l s = call-is ∙ (smallest-answers f lent l s).0
 
-  order-fits : (l : List ℕ) → SmallestIn (read limit ws) l → live_count (read limit ws) ≤ length lent → sort_call ws lent ≡ result_of (Done (length l)) (over l lent)
+  order-fits : (l : List ℕ) → SmallestIn (read limit ws) l → live_count (read limit ws) ≤ length lent → sort_call ws lent ≡ result_of (Ok (length l)) (over l lent)
   order-fits l s room = order-listed l s ∙ sym (listed-fits l lent (length l) refl (over l lent) (rw (← order-length l s) room) refl)
 
-  order-short : (l : List ℕ) → SmallestIn (read limit ws) l → length lent < live_count (read limit ws) → sort_call ws lent ≡ result_of (NoRoom (live_count (read limit ws))) lent
+  order-short : (l : List ℕ) → SmallestIn (read limit ws) l → length lent < live_count (read limit ws) → sort_call ws lent ≡ result_of (Err (NoRoom (live_count (read limit ws)))) lent
   order-short l s short = order-listed l s ∙ sym (listed-over l lent (live_count (read limit ws)) (order-length l s) short)
 
 -- 9 exactly where steps form a closed walk; otherwise the smallest order, where there is room for it

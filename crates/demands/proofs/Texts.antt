@@ -1,4 +1,5 @@
 -- What the writer wrote, the reader reads back. Assumes nothing.
+use Rattle.std.specs.Prelude.{Ok}
 use mathlib.Core.Path.{◌≡◌, refl, sym, ap, ◌∙◌}
 use mathlib.Core.Bool.{true}
 use mathlib.Core.List.{List}
@@ -8,7 +9,6 @@ use lib.ListN.{length, drop}
 use lib.Seq.{take-append_seam}
 use Rattle.lists.specs.Lists.{all, over}
 use Rattle.lists.proofs.Cases.{on_below}
-use Rattle.layout.specs.declared.Answer.TheVariants.{Done}
 use Rattle.layout.specs.Layout.{limit, read}
 use Rattle.layout.specs.WellFormed.{well_formed}
 use Rattle.layout.specs.Answers.{Result, result_of, listed}
@@ -30,7 +30,7 @@ module _ (ws lent : List ℕ) (formed : well_formed limit ws ≡ true) where
   unfolding write_result
   call-is = formed-result ws lent (write_result lent) formed
 
-  done-is : length text ≤ length lent → write_call ws lent ≡ result_of (Done (length text)) (over text lent)
+  done-is : length text ≤ length lent → write_call ws lent ≡ result_of (Ok (length text)) (over text lent)
   done-is room = call-is ∙ sym (listed-fits text lent (length text) refl (over text lent) room refl)
 
   -- an answer of 0 had room

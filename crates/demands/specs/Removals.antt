@@ -1,7 +1,6 @@
 -- What is demanded of removals. Assumes nothing.
-use Rattle.std.specs.Prelude.{◌≡◌, true, List, [], ℕ}
+use Rattle.std.specs.Prelude.{◌≡◌, true, List, [], ℕ, Ok}
 use Rattle.walks.specs.Walks.{Reach}
-use Rattle.layout.specs.declared.Answer.TheVariants.{Done}
 use Rattle.layout.specs.Layout.{limit, read, words}
 use Rattle.layout.specs.WellFormed.{well_formed}
 use Rattle.layout.specs.Steps.{StepIn}
@@ -13,7 +12,7 @@ use Rattle.demands.specs.Sort.{sort_call}
 
 -- is_reachable, called on the words of a table, answers yes of x and y: both are live, and y is reached from x
 abbrev pub AnswersYes : List ℕ → ℕ → ℕ → Type 0
-AnswersYes ws x y = on_formed ws [] (reachable_result x y) ≡ result_of (Done 1) []
+AnswersYes ws x y = on_formed ws [] (reachable_result x y) ≡ result_of (Ok 1) []
 
 -- what any list of removals, one call after the other, leaves of a table's words ws
 pub record Withdraws (rs : List Removal) (ws : List ℕ) : Type 0 where

@@ -1,6 +1,5 @@
 -- What is demanded of frame text. Assumes nothing.
-use Rattle.std.specs.Prelude.{◌≡◌, List, ℕ, ◌≤◌, length, take}
-use Rattle.layout.specs.declared.Answer.TheVariants.{Done}
+use Rattle.std.specs.Prelude.{◌≡◌, List, ℕ, ◌≤◌, length, take, Ok}
 use Rattle.layout.specs.Answers.{Result, result_of, on_formed}
 use Rattle.frames.specs.Frames.{write_result}
 use Rattle.frames.specs.Reading.{read_result}
@@ -17,5 +16,5 @@ text_in r = take r.detail r.lent
 -- what the writer's call on the words ws wrote, with its result r, the reader reads back to the same words, whatever stood in its table
 -- before; and a slice as long as the longest text is always long enough to write to
 pub record ReadsBack (ws lent : List ℕ) (r : Result) : Type 0 where
-  pub reads : r.number ≡ 0 → (before : List ℕ) → length before ≡ length ws → read_result (text_in r) before ≡ result_of (Done 0) ws
+  pub reads : r.number ≡ 0 → (before : List ℕ) → length before ≡ length ws → read_result (text_in r) before ≡ result_of (Ok 0) ws
   pub writes : longest ≤ length lent → r.number ≡ 0

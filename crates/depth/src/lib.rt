@@ -45,6 +45,7 @@ fn visit(
     marks[x] = 1;
     let mut end = t;
     let mut k = n;
+    // Counts no index: `untried` says how many neighbours are left to try, none once every number is marked.
     while 0 < k {
         end = try_step(adj, n, x, k, marks, out, end, begun + 1);
         k = untried(n, k, end + begun + 1);
@@ -101,10 +102,8 @@ pub fn finish_order(adj: &[u8; 65536], n: usize, order: &mut [u32; 256]) -> usiz
     let mut marks = [0u8; 256];
     let mut out = [0u32; 256];
     let mut t = 0;
-    let mut x = 0;
-    while x < n {
+    for x in 0..n {
         t = start_at(adj, n, x, &mut marks, &mut out, t);
-        x += 1;
     }
     *order = out;
     t
@@ -127,6 +126,7 @@ fn enter(
     out[t] = x as u32;
     let mut end = t + 1;
     let mut k = n;
+    // Counts no index: `untried` says how many neighbours are left to try, none once every number is marked.
     while 0 < k {
         end = try_enter(adj, n, x, k, marks, out, end);
         k = untried(n, k, end);

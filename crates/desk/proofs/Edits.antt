@@ -1,4 +1,5 @@
 -- What an edit leaves of a table and of its live vertices, and what it leaves of a desk. Assumes nothing.
+use Rattle.std.specs.Prelude.{Ok, Err}
 use mathlib.Core.Path.{◌≡◌, refl, sym, ap, ◌∙◌}
 use mathlib.Core.Bool.{true, false}
 use mathlib.Core.Logic.{⊎_elim}
@@ -13,8 +14,8 @@ use Rattle.lists.specs.Lists.{memb, filter, other_than, itself, Ascending}
 use Rattle.lists.proofs.Cases.{on, clash, and_left, and_right, and_both}
 use Rattle.lists.proofs.Kept.{filter_map}
 use Rattle.lists.proofs.Maps.{map-length}
-use Rattle.layout.specs.declared.Answer.{Answer}
-use Rattle.layout.specs.declared.Answer.TheVariants.{Done, NotWellFormed}
+use Rattle.layout.specs.Answers.{Answer}
+use Rattle.layout.specs.declared.Refusal.TheVariants.{NotWellFormed}
 use Rattle.layout.specs.Content.{Table, vertex_number, live_vertices, live_hyperedges, is_live}
 use Rattle.layout.specs.Layout.{limit, vertex_limit, read, words}
 use Rattle.layout.specs.WellFormed.{well_formed, holdable}
@@ -70,7 +71,7 @@ live_after (remove (vertex v)) t = filter (other_than itself v) (live_vertices t
 live_after (remove (hyperedge x)) t = live_vertices t
 live_after (withdraw rs) t = filter (stays_vertex (map asked rs)) (live_vertices t)
 
--- where the edit's result_of is r: refused, the words are as they were; in any case they are a table; done, these are the live vertices
+-- where the edit's result is r: refused, the words are as they were; in any case they are a table; done, these are the live vertices
 pub record Went (e : Edit) (ws : List ℕ) (r : Result) : Type 0 where
   pub refused : (n : ℕ) → r.number ≡ suc n → r.lent ≡ ws
   pub formed : well_formed limit r.lent ≡ true
@@ -95,7 +96,7 @@ module _ (ws : List ℕ) (formed : well_formed limit ws ≡ true) where
 
   -- done, with the words of a content
   becomes : (e : Edit) (x : ℕ) (t : Table) → holdable limit t ≡ true → live_vertices t ≡ live_after e (read limit ws)
-      → Went e ws (result_of (Done x) (words limit t))
+      → Went e ws (result_of (Ok x) (words limit t))
   becomes e x t h l = record {
     refused = λ k q. absurd (omega (arith, q));
     formed = words-formed limit t h;
@@ -103,7 +104,7 @@ module _ (ws : List ℕ) (formed : well_formed limit ws ≡ true) where
   }
 
   -- a hyperedge that was there: done, and the words are as they were
-  found_before : (ms : List ℕ) (w x : ℕ) → Went (add_hyperedge ms w) ws (result_of (Done x) ws)
+  found_before : (ms : List ℕ) (w x : ℕ) → Went (add_hyperedge ms w) ws (result_of (Ok x) ws)
   unfolding live_after
   found_before ms w x = record { refused = λ k q. refl; formed = formed; live = λ q. refl }
 
@@ -155,7 +156,7 @@ module _ (ws : List ℕ) (formed : well_formed limit ws ≡ true) where
   edit-live e q = (edit-went e).live q
 
 -- words that are no table are refused, and nothing changes
-pub edit-unformed : (e : Edit) (ws : List ℕ) → well_formed limit ws ≡ false → edit e ws ≡ result_of NotWellFormed ws
+pub edit-unformed : (e : Edit) (ws : List ℕ) → well_formed limit ws ≡ false → edit e ws ≡ result_of (Err NotWellFormed) ws
 unfolding edit on_formed
 edit-unformed (add_vertex w) ws u = rw u
 edit-unformed (add_hyperedge ms w) ws u = rw u
@@ -226,7 +227,7 @@ following-part d ws part within =
 -- ---- edits at the desk
 
 -- where the desk does not fit the edit is refused, and nothing changes
-pub edit-unfit : (e : Edit) (d : Desk) → desk_fits d ≡ false → desk_edit e d ≡ outcome NotWellFormed d
+pub edit-unfit : (e : Edit) (d : Desk) → desk_fits d ≡ false → desk_edit e d ≡ outcome (Err NotWellFormed) d
 unfolding desk_edit edited
 edit-unfit e d u = rw u
 

@@ -1,4 +1,5 @@
 -- The state of each vertex after one is set, after a review and after a release; and that states that fit still do. Assumes nothing.
+use Rattle.std.specs.Prelude.{Option, Some, None, Ok, Err}
 use mathlib.Core.Path.{◌≡◌, refl, sym, ap, ◌∙◌}
 use mathlib.Core.Bool.{Bool, true, false, cond}
 use mathlib.Core.List.{List, [], ◌∷◌}
@@ -10,10 +11,8 @@ use lib.Seq.{get_or-set_same, get_or-set_other, drop-set-lt}
 use borrow.Author.Tests.{eqb-true, eq-eqb, ne_eqb, lt-ltb}
 use Rattle.lists.specs.Lists.{all, any, is_below, zeros, word_at}
 use Rattle.lists.proofs.Cases.{on, on_same, clash, or-false-left, or-false-right, and_left, and_right, and_both}
-use Rattle.layout.specs.declared.Found.{Found}
-use Rattle.layout.specs.declared.Found.TheVariants.{At, Nothing}
-use Rattle.layout.specs.declared.Answer.{Answer}
-use Rattle.layout.specs.declared.Answer.TheVariants.{Done, NotWellFormed}
+use Rattle.layout.specs.Answers.{Answer}
+use Rattle.layout.specs.declared.Refusal.TheVariants.{NotWellFormed}
 use Rattle.layout.specs.Content.{Table, live_vertices, is_live, position, place}
 use Rattle.layout.specs.Layout.{limit, vertex_limit}
 use Rattle.layout.specs.Answers.{number, Result, result_of, on_live, on_live_vertex, vertex_missing}
@@ -27,11 +26,11 @@ use Rattle.desk.proofs.Edits.{desk-fits-of}
 
 -- ---- a live vertex has a record
 
-found_of : (p : Found) (x : ℕ) (xs : List ℕ) → position x xs ≡ p → is_live xs x ≡ true → (i : ℕ) × (position x xs ≡ At i)
-found_of (At i) x xs e live = (i, e)
-found_of Nothing x xs e live = clash live (missing-dead x xs e)
+found_of : (p : Option ℕ) (x : ℕ) (xs : List ℕ) → position x xs ≡ p → is_live xs x ≡ true → (i : ℕ) × (position x xs ≡ Some i)
+found_of (Some i) x xs e live = (i, e)
+found_of None x xs e live = clash live (missing-dead x xs e)
 
-pub recorded : (x : ℕ) (xs : List ℕ) → is_live xs x ≡ true → (i : ℕ) × (position x xs ≡ At i)
+pub recorded : (x : ℕ) (xs : List ℕ) → is_live xs x ≡ true → (i : ℕ) × (position x xs ≡ Some i)
 recorded x xs live = found_of (position x xs) x xs refl live
 
 -- ---- one word set
@@ -49,10 +48,10 @@ module _ (t : Table) (ss : List ℕ) (v x : ℕ) (live : is_live (live_vertices 
       let r = recorded v (live_vertices t) live in
       rw r.1 (get_or-set_same ss r.0 x 0 (omega (arith, (position-found v (live_vertices t) r.0 r.1).0)))
 
-  other_at : (u : ℕ) (p : Found) → position u (live_vertices t) ≡ p → (u ≡ v → ⊥) → state_at p (with_state t v x ss) ≡ state_at p ss
+  other_at : (u : ℕ) (p : Option ℕ) → position u (live_vertices t) ≡ p → (u ≡ v → ⊥) → state_at p (with_state t v x ss) ≡ state_at p ss
   unfolding with_state
-  other_at u Nothing e ne = refl
-  other_at u (At j) e ne =
+  other_at u None e ne = refl
+  other_at u (Some j) e ne =
       let r = recorded v (live_vertices t) live in
       rw r.1 (get_or-set_other ss r.0 j x 0 (λ q. ne
       (sym (position-found u (live_vertices t) j e).1 ∙ ap (word_at (live_vertices t)) q ∙ (position-found v (live_vertices t) r.0 r.1).1)))
@@ -135,24 +134,24 @@ pub record Free (t : Table) (ss : List ℕ) (v : ℕ) : Type 0 where
 
 module _ (P : Result → Type 0) (d : Desk) (v : ℕ) (refused : (a : Answer) → eqb (number a) 0 ≡ false → P (result_of a d.states)) where
   live-or : (f : Result) → (desk_fits d ≡ true → is_live (live_vertices (content d)) v ≡ true → P f)
-      → P (cond (desk_fits d) (on_live_vertex (content d) v d.states f) (result_of NotWellFormed d.states))
+      → P (cond (desk_fits d) (on_live_vertex (content d) v d.states f) (result_of (Err NotWellFormed) d.states))
   unfolding on_live
   live-or r f =
       on (desk_fits d)
       (λ e. rw e (on (is_live (live_vertices (content d)) v) (λ l. rw l (f e l)) (λ l. rw l (refused (vertex_missing v) refl))))
-      (λ e. rw e (refused NotWellFormed refl))
+      (λ e. rw e (refused (Err NotWellFormed) refl))
 
   pub review-goes :
       (desk_fits d ≡ true → is_live (live_vertices (content d)) v ≡ true
-      → P (result_of (Done 0) (with_state (content d) v (once_reviewed (state_of (content d) d.states v)) d.states)))
+      → P (result_of (Ok 0) (with_state (content d) v (once_reviewed (state_of (content d) d.states v)) d.states)))
       → P (on_desk d d.states (review_result v d.states))
   unfolding on_desk review_result
   review-goes f = live-or _ f
 
   pub release-goes :
-      (desk_fits d ≡ true → is_live (live_vertices (content d)) v ≡ true → in_state (content d) d.states released v ≡ true → P (result_of (Done 0) d.states))
+      (desk_fits d ≡ true → is_live (live_vertices (content d)) v ≡ true → in_state (content d) d.states released v ≡ true → P (result_of (Ok 0) d.states))
       → (desk_fits d ≡ true → is_live (live_vertices (content d)) v ≡ true → Free (content d) d.states v
-      → P (result_of (Done 0) (with_state (content d) v released d.states)))
+      → P (result_of (Ok 0) (with_state (content d) v released d.states)))
       → P (on_desk d d.states (release_result v d.states))
   unfolding on_desk release_result releasing on_reviewed
   release-goes again first =
@@ -173,14 +172,14 @@ first-none p refusal lent r (x ∷ xs) e = rw (or-false-left (p x) (any p xs) e)
 
 module _ (d : Desk) (v : ℕ) (fits : desk_fits d ≡ true) (live : is_live (live_vertices (content d)) v ≡ true) where
   pub review-done : on_desk d d.states (review_result v d.states)
-      ≡ result_of (Done 0) (with_state (content d) v (once_reviewed (state_of (content d) d.states v)) d.states)
+      ≡ result_of (Ok 0) (with_state (content d) v (once_reviewed (state_of (content d) d.states v)) d.states)
   unfolding on_desk review_result on_live
   review-done = rw (fits, live)
 
-  pub release-again : in_state (content d) d.states released v ≡ true → on_desk d d.states (release_result v d.states) ≡ result_of (Done 0) d.states
+  pub release-again : in_state (content d) d.states released v ≡ true → on_desk d d.states (release_result v d.states) ≡ result_of (Ok 0) d.states
   unfolding on_desk release_result on_live
   release-again e = rw (fits, live, e)
 
-  pub release-first : Free (content d) d.states v → on_desk d d.states (release_result v d.states) ≡ result_of (Done 0) (with_state (content d) v released d.states)
+  pub release-first : Free (content d) d.states v → on_desk d d.states (release_result v d.states) ≡ result_of (Ok 0) (with_state (content d) v released d.states)
   unfolding on_desk release_result on_live releasing on_reviewed
   release-first f = rw (fits, live, f.before, f.signed) (first-none (holds (content d) d.states v) upstream_held d.states _ (live_vertices (content d)) f.unheld)

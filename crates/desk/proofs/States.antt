@@ -1,4 +1,5 @@
 -- Laws of the states: that they fit, the state of a vertex by its number, and states laid out for the live vertices. Assumes nothing.
+use Rattle.std.specs.Prelude.{Option, Some, None}
 use mathlib.Core.Path.{◌≡◌, refl, sym, ap, ◌∙◌}
 use mathlib.Core.Bool.{true, false}
 use mathlib.Core.List.{List, [], ◌∷◌, ◌++◌, map}
@@ -17,8 +18,6 @@ use Rattle.lists.proofs.Memb.{memb-getD}
 use Rattle.lists.proofs.Tab.{map-tab, getD-tab}
 use Rattle.lists.proofs.Flat.{pad-front, zero-end, tab-getD, length-pad}
 use Rattle.lists.proofs.Parts.{part-tail}
-use Rattle.layout.specs.declared.Found.{Found}
-use Rattle.layout.specs.declared.Found.TheVariants.{At, Nothing}
 use Rattle.layout.specs.Content.{position}
 use Rattle.layout.specs.Layout.{vertex_limit}
 use Rattle.layout.proofs.Position.{position-none, position-found, missing-dead, position_here}
@@ -45,13 +44,13 @@ states-fit-by f = and_both _ _ (eq-eqb _ _ f.sized) (and_both _ _ f.known f.unus
 -- the vertex at place i has word i
 pub state-at : (live ss : List ℕ) (i : ℕ) → Ascending live → i < length live → state_in live ss (get_or live i 0) ≡ get_or ss i 0
 unfolding state_in
-state-at live ss i asc h = ap (λ (p : Found). state_at p ss) (sym (position_here (get_or live i 0) live i asc h refl))
+state-at live ss i asc h = ap (λ (p : Option ℕ). state_at p ss) (sym (position_here (get_or live i 0) live i asc h refl))
 
 -- one that is not live waits
 pub state-dead : (live ss : List ℕ) (v : ℕ) → memb v live ≡ false → state_in live ss v ≡ waiting
 unfolding state_in
 state-dead live ss v d =
-    ap (λ (p : Found). state_at p ss)
+    ap (λ (p : Option ℕ). state_at p ss)
     (position-none v live (λ k l q. clash (ap (λ (x : ℕ). memb x live) (sym q) ∙ memb-getD live k l) d))
 
 -- the word at any place is a state
@@ -61,9 +60,9 @@ word_below ss i k =
     (λ h. ltb-true _ _ (all-at (is_below (suc released)) ss i 0 k h))
     (λ h. omega (arith, get_or-eq_default ss 0 {n = i} h))
 
-found_below : (ss : List ℕ) (p : Found) → all (is_below (suc released)) ss ≡ true → state_at p ss < suc released
-found_below ss (At i) k = word_below ss i k
-found_below ss Nothing k = omega arith
+found_below : (ss : List ℕ) (p : Option ℕ) → all (is_below (suc released)) ss ≡ true → state_at p ss < suc released
+found_below ss (Some i) k = word_below ss i k
+found_below ss None k = omega arith
 
 -- of states that fit, each is waiting, reviewed or released
 pub state-below : (n : ℕ) (live ss : List ℕ) → states_fit n ss ≡ true → (v : ℕ) → state_in live ss v < suc released
@@ -85,11 +84,11 @@ states-by-ext f g live h =
     let l' : i < length live = rw map-length at l in
     map_at f live i l' ∙ h (get_or live i 0) (memb-getD live i l') ∙ sym (map_at g live i l')))
 
-by-found : (f : ℕ → ℕ) (live : List ℕ) (v : ℕ) (p : Found) → position v live ≡ p → memb v live ≡ true → state_at p (states_by f live) ≡ f v
+by-found : (f : ℕ → ℕ) (live : List ℕ) (v : ℕ) (p : Option ℕ) → position v live ≡ p → memb v live ≡ true → state_at p (states_by f live) ≡ f v
 unfolding states_by
-by-found f live v (At i) e m =
+by-found f live v (Some i) e m =
     let r = position-found v live i e in zero-end (map f live) (vertex_limit - length (map f live)) i ∙ map_at f live i r.0 ∙ ap f r.1
-by-found f live v Nothing e m = clash m (missing-dead v live e)
+by-found f live v None e m = clash m (missing-dead v live e)
 
 -- a live vertex has the state that was laid out for it
 pub state-by : (f : ℕ → ℕ) (live : List ℕ) (v : ℕ) → memb v live ≡ true → state_in live (states_by f live) v ≡ f v
@@ -140,9 +139,9 @@ waiting-fits n =
       unused = (all_append (eqb 0) (take n all_waiting) (drop n all_waiting) (ap (all (eqb 0)) (take-append-drop n all_waiting) ∙ blank-zeros vertex_limit)).1;
     })
 
-found-waiting : (p : Found) → state_at p all_waiting ≡ waiting
-found-waiting (At i) = zero-end [] vertex_limit i
-found-waiting Nothing = refl
+found-waiting : (p : Option ℕ) → state_at p all_waiting ≡ waiting
+found-waiting (Some i) = zero-end [] vertex_limit i
+found-waiting None = refl
 
 pub waiting-all : (live : List ℕ) (v : ℕ) → state_in live all_waiting v ≡ waiting
 unfolding state_in

@@ -1,8 +1,8 @@
 -- The desk: a lent table and lent states, and what each edit through the desk answers and leaves. Assumes nothing.
-use Rattle.std.specs.Prelude.{Bool, cond, List, ℕ, eqb, length}
+use Rattle.std.specs.Prelude.{Bool, cond, List, ℕ, eqb, length, Err}
 use Rattle.lists.specs.Tests.{◌and◌}
-use Rattle.layout.specs.declared.Answer.{Answer}
-use Rattle.layout.specs.declared.Answer.TheVariants.{NotWellFormed}
+use Rattle.layout.specs.Answers.{Answer}
+use Rattle.layout.specs.declared.Refusal.TheVariants.{NotWellFormed}
 use Rattle.layout.specs.Content.{Table, live_vertices}
 use Rattle.layout.specs.Layout.{limit, vertex_limit, read}
 use Rattle.layout.specs.WellFormed.{well_formed}
@@ -50,7 +50,7 @@ following d ws = desk_of ws (states_by (state_of (content d) d.states) (live_ver
 
 -- the answer and the table are those of the edit's result, and the states follow their vertices
 unfoldable pub edited : Result → Desk → Outcome
-edited r d = cond (desk_fits d) (answering r (following d r.lent)) (outcome NotWellFormed d)
+edited r d = cond (desk_fits d) (answering r (following d r.lent)) (outcome (Err NotWellFormed) d)
 
 unfoldable pub desk_edit : Edit → Desk → Outcome
 desk_edit e d = edited (edit e d.table) d
@@ -63,7 +63,7 @@ renewed r d = desk_of r.lent (cond (eqb r.number 0) all_waiting d.states)
 
 -- the answer and the table are those of the call's result
 unfoldable pub replaced : Result → Desk → Outcome
-replaced r d = cond (eqb (length d.states) vertex_limit) (answering r (renewed r d)) (outcome NotWellFormed d)
+replaced r d = cond (eqb (length d.states) vertex_limit) (answering r (renewed r d)) (outcome (Err NotWellFormed) d)
 
 abbrev pub desk_clear : Desk → Outcome
 desk_clear d = replaced (clear_result d.table) d

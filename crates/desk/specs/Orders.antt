@@ -1,9 +1,7 @@
 -- The planner's order. Assumes nothing.
-use Rattle.std.specs.Prelude.{Bool, not, cond, ◌||◌, List, [], ℕ, suc, ltb, length, take}
+use Rattle.std.specs.Prelude.{Bool, not, cond, ◌||◌, List, [], ℕ, suc, ltb, length, take, Option, Some, None, Ok, Err}
 use Rattle.lists.specs.Lists.{any, memb, word_at, up_to}
-use Rattle.layout.specs.declared.Found.{Found}
-use Rattle.layout.specs.declared.Found.TheVariants.{At, Nothing}
-use Rattle.layout.specs.declared.Answer.TheVariants.{Done, BadOrder}
+use Rattle.layout.specs.declared.Refusal.TheVariants.{BadOrder}
 use Rattle.layout.specs.Content.{Table, live_vertices, is_live}
 use Rattle.layout.specs.Steps.{has_step}
 use Rattle.layout.specs.Answers.{Result, result_of}
@@ -16,7 +14,7 @@ at_fault t order i =
     not (is_live (live_vertices t) v) || (memb v (take i order) || any (has_step t v) (take (suc i) order))
 
 -- the first such place, from 0
-unfoldable pub first_fault : Table → List ℕ → Found
+unfoldable pub first_fault : Table → List ℕ → Option ℕ
 first_fault t order = first_passing (at_fault t order) (up_to (length order))
 
 -- the order stops short: it has fewer entries than vertices are live
@@ -24,10 +22,10 @@ unfoldable pub stops_short : Table → List ℕ → Bool
 stops_short t order = ltb (length order) (length (live_vertices t))
 
 -- 19: the first place at fault, else the order's length if it stops short
-abbrev pub on_accepted : Found → Table → List ℕ → Result → Result
-on_accepted (At i) t order r = result_of (BadOrder i) []
-on_accepted Nothing t order r = cond (stops_short t order) (result_of (BadOrder (length order)) []) r
+abbrev pub on_accepted : Option ℕ → Table → List ℕ → Result → Result
+on_accepted (Some i) t order r = result_of (Err (BadOrder i)) []
+on_accepted None t order r = cond (stops_short t order) (result_of (Err (BadOrder (length order))) []) r
 
 -- desk_accept_order: 1, 19
 unfoldable pub accept_result : List ℕ → Table → Result
-accept_result order t = on_accepted (first_fault t order) t order (result_of (Done 0) [])
+accept_result order t = on_accepted (first_fault t order) t order (result_of (Ok 0) [])

@@ -1,9 +1,9 @@
 -- Review and release, and what the desk shows of the states. Assumes nothing.
-use Rattle.std.specs.Prelude.{Bool, not, cond, List, [], ℕ, eqb}
+use Rattle.std.specs.Prelude.{Bool, not, cond, List, [], ℕ, eqb, Ok, Err}
 use Rattle.lists.specs.Tests.{◌and◌}
 use Rattle.lists.specs.Lists.{any, filter}
-use Rattle.layout.specs.declared.Answer.{Answer}
-use Rattle.layout.specs.declared.Answer.TheVariants.{Done, NotWellFormed, NotReviewed, UpstreamHeld}
+use Rattle.layout.specs.Answers.{Answer}
+use Rattle.layout.specs.declared.Refusal.TheVariants.{NotWellFormed, NotReviewed, UpstreamHeld}
 use Rattle.layout.specs.Content.{Table, live_vertices}
 use Rattle.layout.specs.Steps.{has_step}
 use Rattle.layout.specs.Answers.{Result, result_of, on_live_vertex, listed}
@@ -13,7 +13,7 @@ use Rattle.desk.specs.Desk.{Desk, content, desk_fits}
 
 -- 1: table not well formed, or states that don't fit it, before all else; then what f says of the content
 unfoldable pub on_desk : Desk → List ℕ → (Table → Result) → Result
-on_desk d lent f = cond (desk_fits d) (f (content d)) (result_of NotWellFormed lent)
+on_desk d lent f = cond (desk_fits d) (f (content d)) (result_of (Err NotWellFormed) lent)
 
 -- ---- review
 
@@ -23,7 +23,7 @@ once_reviewed x = cond (eqb x waiting) reviewed x
 
 -- desk_review: 1, 3; ss are the states
 unfoldable pub review_result : ℕ → List ℕ → Table → Result
-review_result v ss t = on_live_vertex t v ss (result_of (Done 0) (with_state t v (once_reviewed (state_of t ss v)) ss))
+review_result v ss t = on_live_vertex t v ss (result_of (Ok 0) (with_state t v (once_reviewed (state_of t ss v)) ss))
 
 -- ---- release
 
@@ -33,31 +33,31 @@ holds t ss v u = has_step t u v and not (in_state t ss released u)
 
 -- 17: not reviewed; the vertex
 abbrev pub not_reviewed : ℕ → Answer
-not_reviewed v = NotReviewed (record { 0 = v })
+not_reviewed v = Err (NotReviewed (record { 0 = v }))
 
 unfoldable pub on_reviewed : Table → ℕ → List ℕ → Result → Result
 on_reviewed t v ss r = cond (in_state t ss reviewed v) r (result_of (not_reviewed v) ss)
 
 -- 18: something upstream held; the live vertices ascend, so the first is the lowest
 abbrev pub upstream_held : ℕ → Answer
-upstream_held u = UpstreamHeld (record { 0 = u })
+upstream_held u = Err (UpstreamHeld (record { 0 = u }))
 
 abbrev pub on_unheld : Table → ℕ → List ℕ → Result → Result
 on_unheld t v ss r = on_first (holds t ss v) upstream_held (live_vertices t) ss r
 
 -- 17, 18, then it is released
 unfoldable pub releasing : ℕ → List ℕ → Table → Result
-releasing v ss t = on_reviewed t v ss (on_unheld t v ss (result_of (Done 0) (with_state t v released ss)))
+releasing v ss t = on_reviewed t v ss (on_unheld t v ss (result_of (Ok 0) (with_state t v released ss)))
 
 -- desk_release: 1, 3, then a released one is done, then 17, 18
 unfoldable pub release_result : ℕ → List ℕ → Table → Result
-release_result v ss t = on_live_vertex t v ss (cond (in_state t ss released v) (result_of (Done 0) ss) (releasing v ss t))
+release_result v ss t = on_live_vertex t v ss (cond (in_state t ss released v) (result_of (Ok 0) ss) (releasing v ss t))
 
 -- ---- for looking
 
 -- desk_state: 1, 3; the detail is the state
 unfoldable pub state_result : ℕ → List ℕ → Table → Result
-state_result v ss t = on_live_vertex t v [] (result_of (Done (state_of t ss v)) [])
+state_result v ss t = on_live_vertex t v [] (result_of (Ok (state_of t ss v)) [])
 
 -- the vertices in a state, ascending
 unfoldable pub vertices_in : ℕ → List ℕ → Table → List ℕ

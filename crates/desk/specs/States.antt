@@ -1,9 +1,7 @@
 -- The states of the vertices at the release desk, one word for each vertex record. Assumes nothing.
-use Rattle.std.specs.Prelude.{Bool, List, map, ℕ, suc, eqb, length, set, drop, replicate}
+use Rattle.std.specs.Prelude.{Bool, List, map, ℕ, suc, eqb, length, set, drop, replicate, Option, Some, None}
 use Rattle.lists.specs.Tests.{◌and◌}
 use Rattle.lists.specs.Lists.{all, is_below, zeros, pad, word_at}
-use Rattle.layout.specs.declared.Found.{Found}
-use Rattle.layout.specs.declared.Found.TheVariants.{At, Nothing}
 use Rattle.layout.specs.Content.{Table, live_vertices, position, place}
 use Rattle.layout.specs.Layout.{vertex_limit}
 
@@ -22,9 +20,9 @@ unfoldable pub states_fit : ℕ → List ℕ → Bool
 states_fit n ss = eqb (length ss) vertex_limit and all (is_below (suc released)) ss and zeros (drop n ss)
 
 -- the word of the record that a search found; what is not found waits
-abbrev pub state_at : Found → List ℕ → ℕ
-state_at (At i) ss = word_at ss i
-state_at Nothing ss = waiting
+abbrev pub state_at : Option ℕ → List ℕ → ℕ
+state_at (Some i) ss = word_at ss i
+state_at None ss = waiting
 
 -- the state of a vertex, by its number, where live are the numbers of the records
 unfoldable pub state_in : List ℕ → List ℕ → ℕ → ℕ

@@ -5,13 +5,13 @@ ghost use Rattle.std.specs.Prelude.{◌≡◌};
 ghost use Rattle.desk.specs.Desk.{desk_of, outcome, desk_clear, desk_read};
 
 use desk_states::renew;
-use layout::Answer;
+use layout::{Answer, Refusal};
 
 pub fn desk_clear(t: &mut [u32], s: &mut [u32]) -> Answer
     ensures { outcome result (desk_of t.new s.new) ≡ desk_clear (desk_of t.old s.old) }
 {
     if s.len() != layout::VERTEX_LIMIT {
-        return Answer::NotWellFormed;
+        return Err(Refusal::NotWellFormed);
     }
     let cleared = hypergraph::clear(t);
     renew(s, cleared);
@@ -22,7 +22,7 @@ pub fn desk_read_frames(t: &mut [u32], s: &mut [u32], text: &[u8]) -> Answer
     ensures { outcome result (desk_of t.new s.new) ≡ desk_read text.now (desk_of t.old s.old) }
 {
     if s.len() != layout::VERTEX_LIMIT {
-        return Answer::NotWellFormed;
+        return Err(Refusal::NotWellFormed);
     }
     let read = read_frames::read_frames(t, text);
     renew(s, read);

@@ -5,7 +5,7 @@ use mathlib.Core.List.{List}
 use Prim.Native.Nat.{ℕ}
 use borrow.Author.Tests.{not-false}
 use Rattle.lists.proofs.Cases.{on}
-use Rattle.layout.specs.declared.Answer.{Answer}
+use Rattle.layout.specs.Answers.{Answer}
 use Rattle.layout.specs.Layout.{limit}
 use Rattle.layout.specs.WellFormed.{well_formed}
 use Rattle.layout.specs.Answers.{Result, result_of, on_formed}

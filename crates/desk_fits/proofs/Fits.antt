@@ -1,4 +1,5 @@
 -- The test of the desk, and which answer it gives. Assumes nothing.
+use Rattle.std.specs.Prelude.{Err}
 use mathlib.Core.Path.{◌≡◌, sym, ap, ◌∙◌}
 use mathlib.Core.Bool.{Bool, true, false, not}
 use mathlib.Core.List.{List}
@@ -7,7 +8,7 @@ use native.Mathlib.Omega.{arith}
 use lib.ListN.{length}
 use borrow.Author.Tests.{not-true, not-false}
 use Rattle.lists.specs.Tests.{◌and◌}
-use Rattle.layout.specs.declared.Answer.TheVariants.{NotWellFormed}
+use Rattle.layout.specs.declared.Refusal.TheVariants.{NotWellFormed}
 use Rattle.layout.specs.Content.{Table}
 use Rattle.layout.specs.Layout.{limit, vertex_limit, vertex_count, read}
 use Rattle.layout.specs.WellFormed.{well_formed}
@@ -46,7 +47,7 @@ module _ (ws ss : List ℕ) (r : Bool) (e : r ≡ desk_fits (desk_of ws ss)) whe
   pub long-by-desk : not r ≡ false → length ss ≡ vertex_limit
   long-by-desk h = (states-fit-of (desk-fits-of (sym e ∙ not-false r h)).fit).sized
 
-  pub on-misfit : (lent : List ℕ) (f : Table → Result) → not r ≡ true → result_of NotWellFormed lent ≡ on_desk (desk_of ws ss) lent f
+  pub on-misfit : (lent : List ℕ) (f : Table → Result) → not r ≡ true → result_of (Err NotWellFormed) lent ≡ on_desk (desk_of ws ss) lent f
   unfolding on_desk
   on-misfit lent f h = rw (← e, not-true r h)
 

@@ -1,4 +1,5 @@
 -- The record of a vertex, and its state by that record. Assumes nothing.
+use Rattle.std.specs.Prelude.{Option, Some}
 use mathlib.Core.Path.{◌≡◌, sym, ap, ◌∙◌}
 use mathlib.Core.List.{List}
 use Prim.Native.Nat.{ℕ, ◌<◌}
@@ -6,8 +7,6 @@ use native.Mathlib.Omega.{arith}
 use lib.Dec.{eqb}
 use lib.ListN.{length, get_or, set}
 use Rattle.lists.specs.Lists.{Ascending, word_at}
-use Rattle.layout.specs.declared.Found.{Found}
-use Rattle.layout.specs.declared.Found.TheVariants.{At}
 use Rattle.layout.specs.Content.{Table, live_vertices, position}
 use Rattle.layout.specs.Layout.{limit, vertex_limit, read}
 use Rattle.layout.specs.Inner.{Formed}
@@ -17,8 +16,8 @@ use Rattle.desk.proofs.States.{state-at}
 
 -- ---- p is what `find_vertex` returned
 
-module _ (ws : List ℕ) (v i : ℕ) (p : Found) (e : p ≡ position v (live_vertices (read limit ws))) (h : p ≡ At i) where
-  pub record-here : position v (live_vertices (read limit ws)) ≡ At i
+module _ (ws : List ℕ) (v i : ℕ) (p : Option ℕ) (e : p ≡ position v (live_vertices (read limit ws))) (h : p ≡ Some i) where
+  pub record-here : position v (live_vertices (read limit ws)) ≡ Some i
   record-here = sym e ∙ h
 
   pub record-within : Formed limit ws → i < vertex_limit
@@ -29,7 +28,7 @@ module _ (ws : List ℕ) (v i : ℕ) (p : Found) (e : p ≡ position v (live_ver
 
 -- ---- the record of v is i
 
-module _ (t : Table) (ss : List ℕ) (v i : ℕ) (e : position v (live_vertices t) ≡ At i) where
+module _ (t : Table) (ss : List ℕ) (v i : ℕ) (e : position v (live_vertices t) ≡ Some i) where
   pub state-found : state_of t ss v ≡ word_at ss i
   unfolding state_in
   state-found = rw e

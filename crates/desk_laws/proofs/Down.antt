@@ -1,4 +1,5 @@
 -- A review of every live vertex is done and none waits; then going down an accepted order is done and releases all. Assumes nothing.
+use Rattle.std.specs.Prelude.{Ok}
 use mathlib.Core.Path.{◌≡◌, refl, sym, ap, ◌∙◌, subst}
 use mathlib.Core.Bool.{Bool, true, false, cond, ◌||◌}
 use mathlib.Core.Logic.{◌⊎◌, inl, inr, ⊎_elim}
@@ -16,7 +17,6 @@ use Rattle.lists.proofs.All.{all-at, all_of}
 use Rattle.lists.proofs.Any.{any_at}
 use Rattle.lists.proofs.Kept.{all_then}
 use Rattle.lists.proofs.Memb.{memb-getD, memb-at}
-use Rattle.layout.specs.declared.Answer.TheVariants.{Done}
 use Rattle.layout.specs.Content.{live_vertices, is_live}
 use Rattle.layout.specs.Steps.{StepIn}
 use Rattle.layout.specs.Layout.{limit, read}
@@ -37,7 +37,7 @@ use Rattle.desk_laws.proofs.Orders.{accepted-forward, forward-accepted}
 
 -- ---- a call that is done, and the others after it
 
-module _ (c : DeskCall) (d e : Desk) (is : desk_call c d ≡ outcome (Done 0) e) (cs : List DeskCall) where
+module _ (c : DeskCall) (d e : Desk) (is : desk_call c d ≡ outcome (Ok 0) e) (cs : List DeskCall) where
   done-then : AllDone cs e → AllDone (c ∷ cs) d
   done-then h = rw is (refl, h)
 
@@ -73,7 +73,7 @@ abbrev after_review : Desk → ℕ → Desk
 after_review d v = desk_of d.table (with_state (content d) v (once_reviewed (state_of (content d) d.states v)) d.states)
 
 module _ (d : Desk) (v : ℕ) (fits : desk_fits d ≡ true) (live : is_live (live_vertices (content d)) v ≡ true) where
-  review-call : desk_call (review v) d ≡ outcome (Done 0) (after_review d v)
+  review-call : desk_call (review v) d ≡ outcome (Ok 0) (after_review d v)
   unfolding desk_call
   review-call = ap (signed d) (review-done d v fits live)
 
@@ -96,7 +96,7 @@ unfolding after_desk all
 reviews-go [] d fits live = (d.states, record { done = tt; leaves = refl; fits = fits; states = λ u. refl })
 reviews-go (v ∷ vs) d fits live =
     let here : is_live (live_vertices (content d)) v ≡ true = and_left _ _ live in
-    let e : desk_call (review v) d ≡ outcome (Done 0) (after_review d v) = review-call d v fits here in
+    let e : desk_call (review v) d ≡ outcome (Ok 0) (after_review d v) = review-call d v fits here in
     let r = reviews-go vs (after_review d v) (review-fits d v fits here) (and_right _ _ live) in
     let s = r.1 in (
       r.0,
@@ -139,7 +139,7 @@ module _ (d : Desk) (fits : desk_fits d ≡ true) (vs : List ℕ) (live : all (i
 
 -- ss are the states after a release of v
 record Releases (d : Desk) (v : ℕ) (ss : List ℕ) : Type 0 where
-  is : desk_call (release v) d ≡ outcome (Done 0) (desk_of d.table ss)
+  is : desk_call (release v) d ≡ outcome (Ok 0) (desk_of d.table ss)
   fits : desk_fits (desk_of d.table ss) ≡ true
   past : AllReviewed (desk_of d.table ss)
   kept : (u : ℕ) → Released d u → in_state (content d) ss released u ≡ true

@@ -1,5 +1,6 @@
 -- The desk accepts an order exactly where it lists every live vertex once and every step goes forward; what it answers otherwise is the first
 -- fault. So the sort's order is accepted, and some order is exactly where no steps form a closed walk. Assumes nothing.
+use Rattle.std.specs.Prelude.{Option, Some, None, Ok, Err}
 use mathlib.Core.Path.{◌≡◌, refl, sym, ap, ◌∙◌}
 use mathlib.Core.Bool.{true, false, not}
 use mathlib.Core.Logic.{⊎_elim}
@@ -15,9 +16,7 @@ use Rattle.lists.specs.Lists.{any, memb, Distinct, over, word_at}
 use Rattle.lists.proofs.Cases.{on, on_below, clash, test-ext, or-false-left, or-false-right}
 use Rattle.lists.proofs.Memb.{memb-getD, memb-at}
 use Rattle.lists.proofs.Any.{any_at, any_of}
-use Rattle.layout.specs.declared.Found.{Found}
-use Rattle.layout.specs.declared.Found.TheVariants.{At, Nothing}
-use Rattle.layout.specs.declared.Answer.TheVariants.{Done, BadOrder}
+use Rattle.layout.specs.declared.Refusal.TheVariants.{BadOrder}
 use Rattle.layout.specs.Content.{Table, live_vertices, is_live}
 use Rattle.layout.specs.Layout.{limit}
 use Rattle.layout.specs.Inner.{Formed}
@@ -98,10 +97,10 @@ module _ (t : Table) (order : List ℕ) where
 -- ---- what is answered
 
 module _ (t : Table) (order : List ℕ) where
-  done_at : (p : Found) → first_fault t order ≡ p → (on_accepted p t order (result_of (Done 0) [])).number ≡ 0 → Sound t order
+  done_at : (p : Option ℕ) → first_fault t order ≡ p → (on_accepted p t order (result_of (Ok 0) [])).number ≡ 0 → Sound t order
   unfolding first_fault
-  done_at (At i) e q = absurd (let z : ◌≡◌ {A = ℕ} 19 0 = q in omega arith)
-  done_at Nothing e q = record {
+  done_at (Some i) e q = absurd (let z : ◌≡◌ {A = ℕ} 19 0 = q in omega arith)
+  done_at None e q = record {
     places = first-none (at_fault t order) (length order) e;
     whole = on (stops_short t order) (λ s. absurd (let z : ◌≡◌ {A = ℕ} 19 0 = rw s at q in omega arith)) (λ s. s);
   }
@@ -110,17 +109,17 @@ module _ (t : Table) (order : List ℕ) where
   unfolding accept_result
   done-sound q = done_at (first_fault t order) refl q
 
-  sound-done : Sound t order → accept_result order t ≡ result_of (Done 0) []
+  sound-done : Sound t order → accept_result order t ≡ result_of (Ok 0) []
   unfolding accept_result first_fault
   sound-done s = rw (none_first (at_fault t order) (length order) s.places, s.whole)
 
-  fault-at : (p : Found) → first_fault t order ≡ p → (on_accepted p t order (result_of (Done 0) [])).number ≡ 19
-      → FirstFault t order (on_accepted p t order (result_of (Done 0) [])).detail
+  fault-at : (p : Option ℕ) → first_fault t order ≡ p → (on_accepted p t order (result_of (Ok 0) [])).number ≡ 19
+      → FirstFault t order (on_accepted p t order (result_of (Ok 0) [])).detail
   unfolding first_fault
-  fault-at (At i) e q =
+  fault-at (Some i) e q =
       let r = first-at (at_fault t order) (length order) i e in
       record { within = omega (arith, r.0); before = r.2; here = λ h. r.1; short = λ h. absurd (lt_irrefl i (omega (arith, r.0))) }
-  fault-at Nothing e q =
+  fault-at None e q =
       on (stops_short t order)
       (λ s. rw s (record {
         within = omega arith;
@@ -134,7 +133,7 @@ module _ (t : Table) (order : List ℕ) where
   unfolding accept_result
   refused-fault q = fault-at (first_fault t order) refl q
 
-  fault-refused : (i : ℕ) → FirstFault t order i → accept_result order t ≡ result_of (BadOrder i) []
+  fault-refused : (i : ℕ) → FirstFault t order i → accept_result order t ≡ result_of (Err (BadOrder i)) []
   unfolding accept_result first_fault
   fault-refused i f =
       on_below i (length order)
@@ -164,7 +163,7 @@ module _ (d : Desk) (fits : desk_fits d ≡ true) where
   pub accepted-forward : (order : List ℕ) → Accepts d order → ForwardIn (content d) order
   accepted-forward order a = sound-forward (content d) order (done-sound (content d) order (ap (λ (r : Result). r.number) (sym (call-is order)) ∙ a))
 
-  pub forward-accepted : (order : List ℕ) → ForwardIn (content d) order → accept_call order d ≡ result_of (Done 0) []
+  pub forward-accepted : (order : List ℕ) → ForwardIn (content d) order → accept_call order d ≡ result_of (Ok 0) []
   forward-accepted order f =
       call-is order ∙ sound-done (content d) order
       (forward-sound (content d) order (ascending-distinct (live_vertices (content d)) (live-ascends limit d.table formed)) f)
@@ -174,7 +173,7 @@ module _ (d : Desk) (fits : desk_fits d ≡ true) where
   pub order-refused : (order : List ℕ) → (accept_call order d).number ≡ 19 → FirstFault (content d) order (accept_call order d).detail
   order-refused order q = rw (call-is order) (refused-fault (content d) order (ap (λ (r : Result). r.number) (sym (call-is order)) ∙ q))
 
-  pub fault-answered : (order : List ℕ) (i : ℕ) → FirstFault (content d) order i → accept_call order d ≡ result_of (BadOrder i) []
+  pub fault-answered : (order : List ℕ) (i : ℕ) → FirstFault (content d) order i → accept_call order d ≡ result_of (Err (BadOrder i)) []
   fault-answered order i f = call-is order ∙ fault-refused (content d) order i f
 
   -- ---- the sort's order is accepted; some order is exactly where no steps form a closed walk

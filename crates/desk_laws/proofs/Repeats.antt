@@ -1,4 +1,5 @@
 -- Laws of lists with no repeat, and of the first number below n that passes a test. Assumes nothing.
+use Rattle.std.specs.Prelude.{Some, None}
 use mathlib.Core.Path.{◌≡◌, refl, sym, ap, ◌∙◌, subst}
 use mathlib.Core.Bool.{Bool, true, false, not}
 use mathlib.Core.Logic.{⊎_elim}
@@ -15,7 +16,6 @@ use Rattle.lists.proofs.Cases.{on, on_same, clash, or-true, or_right, or-false-r
 use Rattle.lists.proofs.Memb.{memb-self, memb-at}
 use Rattle.lists.proofs.Kept.{filter-length, memb-filter}
 use Rattle.lists.proofs.Tab.{length-tab, getD-tab}
-use Rattle.layout.specs.declared.Found.TheVariants.{At, Nothing}
 use Rattle.edits.specs.Results.{first_passing_from, first_passing}
 
 -- ---- no repeat
@@ -82,16 +82,16 @@ record FirstIn (p : ℕ → Bool) (xs : List ℕ) (i : ℕ) : Type 0 where
   pub before : (j : ℕ) → j < i → p (get_or xs j 0) ≡ false
 
 module _ (p : ℕ → Bool) where
-  from-none : (k : ℕ) (xs : List ℕ) → first_passing_from p k xs ≡ Nothing → (j : ℕ) → j < length xs → p (get_or xs j 0) ≡ false
+  from-none : (k : ℕ) (xs : List ℕ) → first_passing_from p k xs ≡ None → (j : ℕ) → j < length xs → p (get_or xs j 0) ≡ false
   unfolding first_passing_from
   from-none k [] e j h = absurd (not-suc-le-zero h)
-  from-none k (x ∷ xs) e zero h = on (p x) (λ q. absurd (let f : At k ≡ Nothing = rw q at e in let z : ◌≡◌ {A = ℕ} 0 1 = cc in omega arith)) (λ q. q)
+  from-none k (x ∷ xs) e zero h = on (p x) (λ q. absurd (let f : Some k ≡ None = rw q at e in let z : ◌≡◌ {A = ℕ} 0 1 = cc in omega arith)) (λ q. q)
   from-none k (x ∷ xs) e (suc j) h =
       on (p x)
-      (λ q. absurd (let f : At k ≡ Nothing = rw q at e in let z : ◌≡◌ {A = ℕ} 0 1 = cc in omega arith))
+      (λ q. absurd (let f : Some k ≡ None = rw q at e in let z : ◌≡◌ {A = ℕ} 0 1 = cc in omega arith))
       (λ q. from-none (suc k) xs (rw q at e) j (le_of_suc-le-suc h))
 
-  to_none : (k : ℕ) (xs : List ℕ) → ((j : ℕ) → j < length xs → p (get_or xs j 0) ≡ false) → first_passing_from p k xs ≡ Nothing
+  to_none : (k : ℕ) (xs : List ℕ) → ((j : ℕ) → j < length xs → p (get_or xs j 0) ≡ false) → first_passing_from p k xs ≡ None
   unfolding first_passing_from
   to_none k [] h = refl
   to_none k (x ∷ xs) h = rw (h zero (zero-lt-suc (length xs))) (to_none (suc k) xs (λ j b. h (suc j) (suc-le-suc b)))
@@ -100,13 +100,13 @@ module _ (p : ℕ → Bool) where
   one_more_lem x xs q m zero f b = q
   one_more_lem x xs q m (suc j) f b = f j (le_of_suc-le-suc b)
 
-  from_at : (k : ℕ) (xs : List ℕ) (i : ℕ) → first_passing_from p k xs ≡ At i → (j : ℕ) × (i ≡ k + j) × FirstIn p xs j
+  from_at : (k : ℕ) (xs : List ℕ) (i : ℕ) → first_passing_from p k xs ≡ Some i → (j : ℕ) × (i ≡ k + j) × FirstIn p xs j
   unfolding first_passing_from
   from_at k [] i e = absurd (let z : ◌≡◌ {A = ℕ} 0 1 = cc in omega arith)
   from_at k (x ∷ xs) i e =
       on (p x)
       (λ q.
-      let f : At k ≡ At i = rw q at e in
+      let f : Some k ≡ Some i = rw q at e in
       let g : k ≡ i = cc in
       (zero, omega arith, record { within = zero-lt-suc (length xs); here = q; before = λ j b. absurd (not-suc-le-zero b) }))
       (λ q.
@@ -114,7 +114,7 @@ module _ (p : ℕ → Bool) where
       let f = r.2 in
       (suc r.0, omega (arith, r.1), record { within = suc-le-suc f.within; here = f.here; before = λ j b. one_more_lem x xs q r.0 j f.before b }))
 
-  to_at : (k : ℕ) (xs : List ℕ) (i : ℕ) → FirstIn p xs i → first_passing_from p k xs ≡ At (k + i)
+  to_at : (k : ℕ) (xs : List ℕ) (i : ℕ) → FirstIn p xs i → first_passing_from p k xs ≡ Some (k + i)
   unfolding first_passing_from
   to_at k [] i f = absurd (not-suc-le-zero f.within)
   to_at k (x ∷ xs) zero f = rw (f.here, add-zero k)
@@ -128,15 +128,15 @@ module _ (p : ℕ → Bool) where
     passes : (j : ℕ) → j < n → p (get_or (up_to n) j 0) ≡ p j
     passes j h = ap p (getD-tab (λ i. i) n j 0 h)
 
-    pub first-none : first_passing p (up_to n) ≡ Nothing → (j : ℕ) → j < n → p j ≡ false
+    pub first-none : first_passing p (up_to n) ≡ None → (j : ℕ) → j < n → p j ≡ false
     unfolding first_passing
     first-none e j h = sym (passes j h) ∙ from-none zero (up_to n) e j (rw length-tab h)
 
-    pub none_first : ((j : ℕ) → j < n → p j ≡ false) → first_passing p (up_to n) ≡ Nothing
+    pub none_first : ((j : ℕ) → j < n → p j ≡ false) → first_passing p (up_to n) ≡ None
     unfolding first_passing
     none_first f = to_none zero (up_to n) (λ j h. let b : j < n = rw length-tab at h in passes j b ∙ f j b)
 
-    pub first-at : (i : ℕ) → first_passing p (up_to n) ≡ At i → (i < n) × (p i ≡ true) × ((j : ℕ) → j < i → p j ≡ false)
+    pub first-at : (i : ℕ) → first_passing p (up_to n) ≡ Some i → (i < n) × (p i ≡ true) × ((j : ℕ) → j < i → p j ≡ false)
     unfolding first_passing
     first-at i e =
         let r = from_at zero (up_to n) i e in
@@ -144,7 +144,7 @@ module _ (p : ℕ → Bool) where
         let b : i < n = rw s (rw length-tab at r.2.within) in
         (b, sym (passes i b) ∙ rw s r.2.here, λ j h. sym (passes j (omega arith)) ∙ r.2.before j (rw (← s) h))
 
-    pub at_first : (i : ℕ) → i < n → p i ≡ true → ((j : ℕ) → j < i → p j ≡ false) → first_passing p (up_to n) ≡ At i
+    pub at_first : (i : ℕ) → i < n → p i ≡ true → ((j : ℕ) → j < i → p j ≡ false) → first_passing p (up_to n) ≡ Some i
     unfolding first_passing
     at_first i b e f =
-        to_at zero (up_to n) i (record { within = rw length-tab b; here = passes i b ∙ e; before = λ j h. passes j (omega arith) ∙ f j h }) ∙ ap At (zero-add i)
+        to_at zero (up_to n) i (record { within = rw length-tab b; here = passes i b ∙ e; before = λ j h. passes j (omega arith) ∙ f j h }) ∙ ap Some (zero-add i)

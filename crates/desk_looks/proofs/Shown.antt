@@ -1,4 +1,5 @@
 -- What the desk shows: the state of a vertex, and the vertices that the marks pick. Assumes nothing.
+use Rattle.std.specs.Prelude.{Option, Some, Ok}
 use mathlib.Core.Path.{◌≡◌, sym, ap, ap₂, ◌∙◌}
 use mathlib.Core.Bool.{Bool, not}
 use mathlib.Core.List.{List, []}
@@ -8,9 +9,6 @@ use lib.ListN.{length, get_or}
 use Rattle.lists.specs.Tests.{◌and◌}
 use Rattle.lists.specs.Lists.{any, filter, up_to, word_at}
 use Rattle.lists.proofs.Flat.{tab-getD}
-use Rattle.layout.specs.declared.Found.{Found}
-use Rattle.layout.specs.declared.Found.TheVariants.{At}
-use Rattle.layout.specs.declared.Answer.TheVariants.{Done}
 use Rattle.layout.specs.Content.{live_vertices, position}
 use Rattle.layout.specs.Layout.{limit, vertex_count, read}
 use Rattle.layout.specs.Inner.{Formed}
@@ -31,12 +29,12 @@ use Rattle.desk_looks.specs.Held.{MarkedWhere, record_in, record_free, holds_rec
 
 -- ---- the state of a vertex: p is what `find_vertex` returned
 
-module _ (ws ss : List ℕ) (v i : ℕ) (p : Found) (e : p ≡ position v (live_vertices (read limit ws))) (h : p ≡ At i) where
+module _ (ws ss : List ℕ) (v i : ℕ) (p : Option ℕ) (e : p ≡ position v (live_vertices (read limit ws))) (h : p ≡ Some i) where
   -- x is what `state_at` returned
-  pub state-told : (x : ℕ) → x ≡ word_at ss i → result_of (Done x) [] ≡ state_result v ss (read limit ws)
+  pub state-told : (x : ℕ) → x ≡ word_at ss i → result_of (Ok x) [] ≡ state_result v ss (read limit ws)
   unfolding state_result
   state-told x q =
-      ap (λ (y : ℕ). result_of (Done y) []) (q ∙ sym (state-found (read limit ws) ss v i (sym e ∙ h)))
+      ap (λ (y : ℕ). result_of (Ok y) []) (q ∙ sym (state-found (read limit ws) ss v i (sym e ∙ h)))
       ∙ on-found (live_vertices (read limit ws)) vertex_missing v [] _ p e i h
 
 -- ---- listings: n is what `vertex_count` returned, x what `list_marked` answered and left

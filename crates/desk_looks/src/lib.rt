@@ -11,18 +11,15 @@ ghost use Rattle.desk.specs.Releases.{on_desk, state_result, list_result};
 ghost use Rattle.desk_looks.specs.Held.{MarkedWhere, record_in};
 
 use desk_fits::desk_fits;
-use layout::{Answer, Found, VertexIndex};
+use layout::{Answer, Refusal, VertexIndex};
 
 fn state_formed(t: &[u32], s: &[u32], v: VertexIndex) -> Answer
     requires formed { Formed limit t.now }
     requires s_len { length s.now ≡ vertex_limit }
     ensures { result_of result [] ≡ state_result v.0 s.now (read limit t.now) }
 {
-    let f = find::find_vertex(t, v);
-    match f {
-        Found::Nothing => Answer::VertexNotLive(v),
-        Found::At(i) => Answer::Done(state_at(s, i)),
-    }
+    let i = find::find_vertex(t, v).ok_or(Refusal::VertexNotLive(v))?;
+    Ok(state_at(s, i))
 }
 
 fn state_at(s: &[u32], i: usize) -> usize
@@ -37,7 +34,7 @@ pub fn desk_state(t: &[u32], s: &[u32], v: VertexIndex) -> Answer
     ensures { result_of result [] ≡ on_desk (desk_of t.now s.now) [] (state_result v.0 s.now) }
 {
     if !desk_fits(t, s) {
-        return Answer::NotWellFormed;
+        return Err(Refusal::NotWellFormed);
     }
     state_formed(t, s, v)
 }
@@ -48,10 +45,8 @@ fn mark_state(s: &[u32], n: usize, state: u32) -> [bool; 256]
     ensures { MarkedWhere (record_in s.now state) n result }
 {
     let mut marks = [false; 256];
-    let mut k = 0;
-    while k < n {
+    for k in 0..n {
         marks[k] = s[k] == state;
-        k += 1;
     }
     marks
 }
@@ -71,7 +66,7 @@ pub fn desk_list(t: &[u32], s: &[u32], state: u32, out: &mut [u32]) -> Answer
     ensures { result_of result out.new ≡ on_desk (desk_of t.now s.now) out.old (list_result state s.now out.old) }
 {
     if !desk_fits(t, s) {
-        return Answer::NotWellFormed;
+        return Err(Refusal::NotWellFormed);
     }
     list_formed(t, s, state, out)
 }

@@ -1,6 +1,5 @@
 -- Several numbers at the desk in one call, all or none. Assumes nothing.
-use Rattle.std.specs.Prelude.{cond, List, [], ◌∷◌, ℕ, eqb}
-use Rattle.layout.specs.declared.Answer.TheVariants.{Done}
+use Rattle.std.specs.Prelude.{cond, List, [], ◌∷◌, ℕ, eqb, Ok}
 use Rattle.layout.specs.Content.{Table}
 use Rattle.layout.specs.Answers.{Result, result_of}
 use Rattle.trays.specs.declared.Withdrawal.{Withdrawal}
@@ -12,7 +11,7 @@ of_kind kind n = record { kind = kind; number = n }
 
 -- each is released in turn, up to the first that is refused
 unfoldable pub in_turn : List ℕ → List ℕ → Table → Result
-in_turn [] ss t = result_of (Done 0) ss
+in_turn [] ss t = result_of (Ok 0) ss
 in_turn (v ∷ vs) ss t = let r = release_result v ss t in cond (eqb r.number 0) (in_turn vs r.lent t) r
 
 -- a refusal leaves what was lent

@@ -12,9 +12,8 @@ ghost use Rattle.desk.specs.Releases.{on_desk};
 ghost use Rattle.desk_numbers.specs.Numbers.{of_kind, in_turn, release_numbers_result};
 
 use desk_fits::desk_fits;
-use desk_states::is_done;
 use edits::records::store;
-use layout::{Answer, VertexIndex};
+use layout::{Answer, Refusal, VertexIndex};
 use tray_marks::Tray;
 use trays::Withdrawal;
 
@@ -23,14 +22,12 @@ fn judge_numbers(t: &[u32], kind: u32, numbers: &[u32]) -> Tray
     ensures { result ≡ tray_of t.now (map (of_kind kind) numbers.now) }
 {
     let mut tray = tray_marks::open_tray(t);
-    let mut k: usize = 0;
-    while k < numbers.len() {
+    for k in 0..numbers.len() {
         let w = Withdrawal {
             kind,
             number: numbers[k],
         };
         tray = tray_marks::judge_record(t, tray, k, w);
-        k += 1;
     }
     tray
 }
@@ -49,15 +46,10 @@ fn release_in_turn(t: &[u32], s: &mut [u32], numbers: &[u32]) -> Answer
     requires s_len { length s.old ≡ vertex_limit }
     ensures { result_of result s.new ≡ in_turn numbers.now s.old (read limit t.now) }
 {
-    let mut i: usize = 0;
-    while i < numbers.len() {
-        let a = desk_release::release_formed(t, s, VertexIndex(numbers[i]));
-        if !is_done(a) {
-            return a;
-        }
-        i += 1;
+    for i in 0..numbers.len() {
+        desk_release::release_formed(t, s, VertexIndex(numbers[i]))?;
     }
-    Answer::Done(0)
+    Ok(0)
 }
 
 // A copy of the states.
@@ -77,12 +69,9 @@ fn release_all(t: &[u32], s: &mut [u32], numbers: &[u32]) -> Answer
     ensures { result_of result s.new ≡ release_numbers_result numbers.now s.old (read limit t.now) }
 {
     let mut states = copy_of(s);
-    let a = release_in_turn(t, &mut states, numbers);
-    if !is_done(a) {
-        return a;
-    }
+    let a = release_in_turn(t, &mut states, numbers)?;
     store(s, 0, &states);
-    a
+    Ok(a)
 }
 
 // Releases every vertex of the list, in its order, or none.
@@ -90,7 +79,7 @@ pub fn desk_release_numbers(t: &[u32], s: &mut [u32], numbers: &[u32]) -> Answer
     ensures { result_of result s.new ≡ on_desk (desk_of t.now s.old) s.old (release_numbers_result numbers.now s.old) }
 {
     if !desk_fits(t, s) {
-        return Answer::NotWellFormed;
+        return Err(Refusal::NotWellFormed);
     }
     release_all(t, s, numbers)
 }

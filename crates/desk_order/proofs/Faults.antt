@@ -1,4 +1,5 @@
 -- The entries of an order, one after the other, and what is answered of it. Assumes nothing.
+use Rattle.std.specs.Prelude.{Option, Some, None, Ok, Err}
 use mathlib.Core.Path.{◌≡◌, refl, sym, ap, ap₂, ◌∙◌}
 use mathlib.Core.Bool.{Bool, true, false, not, ◌||◌, or_comm}
 use mathlib.Core.List.{List, [], ◌∷◌, ◌++◌}
@@ -17,9 +18,7 @@ use Rattle.lists.proofs.Any.{any-more, any_at, any_of}
 use Rattle.lists.proofs.All.{all-at, all_snoc}
 use Rattle.lists.proofs.Memb.{memb-at, memb-getD, memb-snoc-self, memb-snoc-other}
 use Rattle.lists.proofs.Ascend.{ascending-apart}
-use Rattle.layout.specs.declared.Found.{Found}
-use Rattle.layout.specs.declared.Found.TheVariants.{At, Nothing}
-use Rattle.layout.specs.declared.Answer.TheVariants.{Done, BadOrder}
+use Rattle.layout.specs.declared.Refusal.TheVariants.{BadOrder}
 use Rattle.layout.specs.Content.{Table, live_vertices, is_live, position}
 use Rattle.layout.specs.Layout.{limit, vertex_limit, vertex_count, read}
 use Rattle.layout.specs.Inner.{Formed}
@@ -47,7 +46,7 @@ marked-within E n m w i j hi hj e = on (ltb i n and ltb j n and E i j)
 
 -- ---- entry i: p is what `find_vertex` returned
 
-module _ (ws order : List ℕ) (i : ℕ) (p : Found) (e : p ≡ position (get_or order i 0) (live_vertices (read limit ws))) (placed : List Bool) where
+module _ (ws order : List ℕ) (i : ℕ) (p : Option ℕ) (e : p ≡ position (get_or order i 0) (live_vertices (read limit ws))) (placed : List Bool) where
   abbrev t : Table
   t = read limit ws
 
@@ -65,11 +64,11 @@ module _ (ws order : List ℕ) (i : ℕ) (p : Found) (e : p ≡ position (get_or
   abbrev asked : Bool → Bool
   asked there = not there || (memb v before || any (has_step t v) (take (suc i) order))
 
-  pub not_live : p ≡ Nothing → Judged t order i true placed
+  pub not_live : p ≡ None → Judged t order i true placed
   unfolding at_fault
   not_live h = record { told = sym (ap asked (missing-dead v live (sym e ∙ h))); placed = λ q. clash refl q }
 
-  module _ (f : Formed limit ws) (k : ℕ) (h : p ≡ At k) where
+  module _ (f : Formed limit ws) (k : ℕ) (h : p ≡ Some k) where
     here : (k < length live) × (get_or live k 0 ≡ v)
     here = position-found v live k (sym e ∙ h)
 
@@ -170,30 +169,30 @@ module _ (t : Table) (order : List ℕ) (i : ℕ) (placed : List Bool) (j : Judg
     pub judging-on : r ≡ false → Judging t order (i + 1) next
     judging-on q = record { within = omega arith; so_far = d.placed q; left = passing-on (at_fault t order) (λ k. k) (length order) i _ j.left (length order) refl r d.told h q }
 
-    pub judging-here : r ≡ true → At i ≡ first_fault t order
+    pub judging-here : r ≡ true → Some i ≡ first_fault t order
     judging-here q = passing-here (at_fault t order) (λ k. k) (length order) i _ j.left (length order) refl r d.told h q
 
-  pub judging-none : length order ≤ i → Nothing ≡ first_fault t order
+  pub judging-none : length order ≤ i → None ≡ first_fault t order
   judging-none h = passing-none (at_fault t order) (λ k. k) (length order) i _ j.left (length order) refl h
 
 -- ---- answers: s is what `first_fault` returned
 
-module _ (t : Table) (order : List ℕ) (s : Found) (e : s ≡ first_fault t order) where
-  pub bad-place : (i : ℕ) → s ≡ At i → result_of (BadOrder i) [] ≡ accept_result order t
+module _ (t : Table) (order : List ℕ) (s : Option ℕ) (e : s ≡ first_fault t order) where
+  pub bad-place : (i : ℕ) → s ≡ Some i → result_of (Err (BadOrder i)) [] ≡ accept_result order t
   unfolding accept_result
   bad-place i h = rw (← e, h)
 
   -- x is what `judge_length` answered
-  pub no-bad-place : (x : Result) → s ≡ Nothing → x ≡ on_length t order → x ≡ accept_result order t
+  pub no-bad-place : (x : Result) → s ≡ None → x ≡ on_length t order → x ≡ accept_result order t
   unfolding accept_result on_length
   no-bad-place x h q = rw (← e, h) q
 
 -- n is what `vertex_count` returned
 module _ (ws order : List ℕ) (n : ℕ) (q : n ≡ vertex_count ws) where
-  pub order-short : length order < n → result_of (BadOrder (length order)) [] ≡ on_length (read limit ws) order
+  pub order-short : length order < n → result_of (Err (BadOrder (length order))) [] ≡ on_length (read limit ws) order
   unfolding on_length stops_short
   order-short h = rw (live-length limit ws, ← q, lt-ltb (length order) n h)
 
-  pub order-whole : n ≤ length order → result_of (Done 0) [] ≡ on_length (read limit ws) order
+  pub order-whole : n ≤ length order → result_of (Ok 0) [] ≡ on_length (read limit ws) order
   unfolding on_length stops_short
   order-whole h = rw (live-length limit ws, ← q, le-ltb (length order) n h)

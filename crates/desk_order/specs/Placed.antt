@@ -1,8 +1,8 @@
 -- What inner functions are stated with: the records that an order has placed so far. Assumes nothing.
-use Rattle.std.specs.Prelude.{◌≡◌, Bool, true, false, cond, ◌||◌, List, [], ℕ, ◌+◌, ◌<◌, length, get_or, take, set}
+use Rattle.std.specs.Prelude.{◌≡◌, Bool, true, false, cond, ◌||◌, List, [], ℕ, ◌+◌, ◌<◌, length, get_or, take, set, Ok, Err}
 use Rattle.lists.specs.Tests.{◌and◌}
 use Rattle.lists.specs.Lists.{all, any, memb, up_to}
-use Rattle.layout.specs.declared.Answer.TheVariants.{Done, BadOrder}
+use Rattle.layout.specs.declared.Refusal.TheVariants.{BadOrder}
 use Rattle.layout.specs.Content.{Table, live_vertices, is_live}
 use Rattle.layout.specs.Layout.{vertex_limit}
 use Rattle.layout.specs.Answers.{Result, result_of}
@@ -36,4 +36,4 @@ pub record Judged (t : Table) (order : List ℕ) (i : ℕ) (r : Bool) (next : Li
 
 -- an order with no place at fault: 19, where it stops short
 unfoldable pub on_length : Table → List ℕ → Result
-on_length t order = cond (stops_short t order) (result_of (BadOrder (length order)) []) (result_of (Done 0) [])
+on_length t order = cond (stops_short t order) (result_of (Err (BadOrder (length order))) []) (result_of (Ok 0) [])

@@ -15,7 +15,7 @@ ghost use Rattle.desk.specs.Orders.{first_fault, accept_result};
 ghost use Rattle.desk_order.specs.Placed.{meets_at, Placed, PlacedNext, Judged, on_length};
 
 use desk_fits::desk_fits;
-use layout::{Answer, Found, VertexIndex};
+use layout::{Answer, Refusal, VertexIndex};
 
 fn met_at(met: bool, mark: u8, placed: bool) -> bool
     ensures { result ≡ (met || (eqb mark 1 and placed)) }
@@ -35,10 +35,8 @@ fn meets(m: &[u8; 65536], k: usize, placed: &[bool; 256]) -> bool
     ensures { result ≡ any (meets_at m.now placed.now k) (up_to vertex_limit) }
 {
     let mut met = false;
-    let mut j = 0;
-    while j < 256 {
+    for j in 0..256 {
         met = met_at(met, m[k * 256 + j], placed[j]);
-        j += 1;
     }
     met
 }
@@ -74,28 +72,25 @@ fn is_at_fault(
     requires i_in_bounds { (i < length order.now) × Placed (read limit t.now) order.now i placed.old }
     ensures { Judged (read limit t.now) order.now i result placed.new }
 {
-    let f = find::find_vertex(t, VertexIndex(order[i]));
-    match f {
-        Found::Nothing => true,
-        Found::At(k) => place(m, k, placed),
-    }
+    let Some(k) = find::find_vertex(t, VertexIndex(order[i])) else {
+        return true;
+    };
+    place(m, k, placed)
 }
 
 // The first place at fault. Each entry before it has a record of its own, so that there are at most 257 turns.
-fn first_fault(t: &[u32], m: &[u8; 65536], order: &[u32]) -> Found
+fn first_fault(t: &[u32], m: &[u8; 65536], order: &[u32]) -> Option<usize>
     requires formed { Formed limit t.now }
     requires holds { Holds (steps_between (read limit t.now)) (vertex_count t.now) m.now }
     ensures { result ≡ first_fault (read limit t.now) order.now }
 {
     let mut placed = [false; 256];
-    let mut i = 0;
-    while i < order.len() {
+    for i in 0..order.len() {
         if is_at_fault(t, m, order, i, &mut placed) {
-            return Found::At(i);
+            return Some(i);
         }
-        i += 1;
     }
-    Found::Nothing
+    None
 }
 
 fn accept_formed(t: &[u32], order: &[u32]) -> Answer
@@ -104,11 +99,10 @@ fn accept_formed(t: &[u32], order: &[u32]) -> Answer
 {
     let mut m = [0u8; 65536];
     steps::step_matrix(t, &mut m);
-    let f = first_fault(t, &m, order);
-    match f {
-        Found::At(i) => Answer::BadOrder(i),
-        Found::Nothing => judge_length(t, order),
+    if let Some(i) = first_fault(t, &m, order) {
+        return Err(Refusal::BadOrder(i));
     }
+    judge_length(t, order)
 }
 
 // Whether an order with no place at fault stops short.
@@ -117,9 +111,9 @@ fn judge_length(t: &[u32], order: &[u32]) -> Answer
     ensures { result_of result [] ≡ on_length (read limit t.now) order.now }
 {
     if order.len() < layout::vertex_count(t) {
-        return Answer::BadOrder(order.len());
+        return Err(Refusal::BadOrder(order.len()));
     }
-    Answer::Done(0)
+    Ok(0)
 }
 
 // Accepts an order, or names the first place that is at fault, or its length where it stops short.
@@ -127,7 +121,7 @@ pub fn desk_accept_order(t: &[u32], s: &[u32], order: &[u32]) -> Answer
     ensures { result_of result [] ≡ on_desk (desk_of t.now s.now) [] (accept_result order.now) }
 {
     if !desk_fits(t, s) {
-        return Answer::NotWellFormed;
+        return Err(Refusal::NotWellFormed);
     }
     accept_formed(t, order)
 }

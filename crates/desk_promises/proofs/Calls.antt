@@ -1,11 +1,11 @@
 -- The calls of the desk are judged by their grounds. Assumes nothing.
+use Rattle.std.specs.Prelude.{Ok}
 use mathlib.Core.Path.{◌≡◌, refl}
 use mathlib.Core.Bool.{Bool, true, false, cond}
 use mathlib.Core.List.{List, [], ◌∷◌, map, append-nil}
 use Prim.Native.Nat.{ℕ}
 use Rattle.lists.specs.Tests.{◌and◌}
 use Rattle.lists.specs.Lists.{all}
-use Rattle.layout.specs.declared.Answer.TheVariants.{Done}
 use Rattle.layout.specs.Content.{live_vertices}
 use Rattle.layout.specs.Answers.{Result, result_of, vertex_missing}
 use Rattle.removals.specs.Removals.{vertex, hyperedge, removal}
@@ -63,16 +63,16 @@ module _ (d : Desk) where
   release-judged v =
       let t = content d in
       let ss = d.states in
-      let eighteen = rw (append-nil (upstream t ss v)) at (unheld-judged t v ss (none-refused {lent = ss} {r = result_of (Done 0) (with_state t v released ss)} refl)) in
+      let eighteen = rw (append-nil (upstream t ss v)) at (unheld-judged t v ss (none-refused {lent = ss} {r = result_of (Ok 0) (with_state t v released ss)} refl)) in
       let seventeen = reviewed-judged t v ss eighteen in
-      let held = unless-judged seventeen (result_of (Done 0) ss) refl (in_state t ss released v) in
+      let held = unless-judged seventeen (result_of (Ok 0) ss) refl (in_state t ss released v) in
       fits-judged d (release_result v ss) (live-judged held (live_vertices t) vertex_missing (v ∷ []))
 
   -- ---- the planner's order, and looks at the states
 
   pub accept-judged : (order : List ℕ) → Judged (accept_grounds order d) [] (on_desk d [] (accept_result order))
   unfolding accept_result
-  accept-judged order = fits-judged d (accept_result order) (accepted-judged (content d) order (result_of (Done 0) []) (none-refused refl))
+  accept-judged order = fits-judged d (accept_result order) (accepted-judged (content d) order (result_of (Ok 0) []) (none-refused refl))
 
   pub state-judged : (v : ℕ) → Judged (desk_vertex_grounds v d) [] (on_desk d [] (state_result v d.states))
   unfolding state_result

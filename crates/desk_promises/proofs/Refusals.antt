@@ -1,8 +1,9 @@
 -- What a call of the desk keeps to that is judged by its grounds, and the desk's own grounds. Assumes nothing.
+use Rattle.std.specs.Prelude.{Option, Some, None, Err}
 use mathlib.Core.Path.{◌≡◌, refl, sym, ap, ◌∙◌}
 use mathlib.Core.Bool.{Bool, true, false, not, cond}
 use mathlib.Core.List.{List, [], ◌∷◌, ◌++◌, map}
-use mathlib.Core.Option.{Option, some, none}
+use mathlib.Core.Option.{Option as Maybe, some, none}
 use Prim.Native.Nat.{ℕ, zero, suc, ◌+◌}
 use native.Mathlib.Omega.{arith}
 use lib.Dec.{eqb}
@@ -10,9 +11,7 @@ use lib.ListN.{length}
 use borrow.Author.Tests.{not-true}
 use Rattle.lists.specs.Lists.{all, tab}
 use Rattle.lists.proofs.Cases.{on, and_left, and_right}
-use Rattle.layout.specs.declared.Found.{Found}
-use Rattle.layout.specs.declared.Found.TheVariants.{At, Nothing}
-use Rattle.layout.specs.declared.Answer.TheVariants.{BadOrder}
+use Rattle.layout.specs.declared.Refusal.TheVariants.{BadOrder}
 use Rattle.layout.specs.Content.{Table, live_vertices}
 use Rattle.layout.specs.Layout.{vertex_limit}
 use Rattle.layout.specs.Answers.{number, Result, result_of}
@@ -32,7 +31,7 @@ module _ {gs : List Ground} {d : Desk} {o : Outcome} (j : DeskJudged gs d o) whe
   -- a refusal is one of the grounds', the first that applies
   pub desk-only-then : (n : ℕ) → o.number ≡ suc n → (g : Ground) × (first gs ≡ some g) × (o ≡ outcome g.answer d)
   desk-only-then n e = by (first gs) refl where
-    by : (q : Option Ground) → first gs ≡ q → (g : Ground) × (first gs ≡ some g) × (o ≡ outcome g.answer d)
+    by : (q : Maybe Ground) → first gs ≡ q → (g : Ground) × (first gs ≡ some g) × (o ≡ outcome g.answer d)
     by none h = absurd (let z : suc n ≡ 0 = sym e ∙ j.done h in omega arith)
     by (some g) h = (g, h, j.refused g h)
 
@@ -107,12 +106,12 @@ module _ (t : Table) (v : ℕ) (ss : List ℕ) {gs : List Ground} {r : Result} (
 
 -- 19, or what comes after
 module _ (t : Table) (order : List ℕ) (r : Result) where
-  fault-first : (b : Bool) (i x : ℕ) (f : Found) → i ≡ x → on_accepted (cond b (At i) f) t order r ≡ cond b (result_of (BadOrder x) []) (on_accepted f t order r)
-  fault-first true i x f e = ap (λ (k : ℕ). result_of (BadOrder k) []) e
+  fault-first : (b : Bool) (i x : ℕ) (f : Option ℕ) → i ≡ x → on_accepted (cond b (Some i) f) t order r ≡ cond b (result_of (Err (BadOrder x)) []) (on_accepted f t order r)
+  fault-first true i x f e = ap (λ (k : ℕ). result_of (Err (BadOrder k)) []) e
   fault-first false i x f e = refl
 
   -- the places from i on, each the number that f gives
-  places-judged : {gs : List Ground} → Judged gs [] (on_accepted Nothing t order r) → (f : ℕ → ℕ) (i m : ℕ) → ((k : ℕ) → f k ≡ i + k)
+  places-judged : {gs : List Ground} → Judged gs [] (on_accepted None t order r) → (f : ℕ → ℕ) (i m : ℕ) → ((k : ℕ) → f k ≡ i + k)
       → Judged (map (fault_at t order) (tab f m) ++ gs) [] (on_accepted (first_passing_from (at_fault t order) i (tab f m)) t order r)
   unfolding first_passing_from tab
   places-judged j f i zero is = j

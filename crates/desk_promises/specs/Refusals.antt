@@ -1,8 +1,8 @@
 -- The grounds of refusal at the release desk, and what it is for a call that may write both lent slices to be refused by them. Assumes nothing.
-use Rattle.std.specs.Prelude.{◌≡◌, not, List, [], ◌∷◌, ◌++◌, map, ℕ, eqb, length}
+use Rattle.std.specs.Prelude.{◌≡◌, not, List, [], ◌∷◌, ◌++◌, map, ℕ, eqb, length, Err}
 use Rattle.std.proofs.Math.Option.{some, none}
 use Rattle.lists.specs.Lists.{up_to}
-use Rattle.layout.specs.declared.Answer.TheVariants.{NotWellFormed, BadOrder}
+use Rattle.layout.specs.declared.Refusal.TheVariants.{NotWellFormed, BadOrder}
 use Rattle.layout.specs.Content.{Table, live_vertices}
 use Rattle.layout.specs.Layout.{vertex_limit}
 use Rattle.removals.specs.Removals.{vertex, hyperedge}
@@ -22,11 +22,11 @@ pub record DeskJudged (gs : List Ground) (d : Desk) (o : Outcome) : Type 0 where
 
 -- 1: table not well formed, or states that don't fit it
 abbrev pub misfit : Desk → Ground
-misfit d = record { answer = NotWellFormed; applies = not (desk_fits d) }
+misfit d = record { answer = (Err NotWellFormed); applies = not (desk_fits d) }
 
 -- 1, where only a wrong length of the states counts
 abbrev pub states_unsized : Desk → Ground
-states_unsized d = record { answer = NotWellFormed; applies = not (eqb (length d.states) vertex_limit) }
+states_unsized d = record { answer = (Err NotWellFormed); applies = not (eqb (length d.states) vertex_limit) }
 
 -- 17: not reviewed
 abbrev pub unreviewed : Table → List ℕ → ℕ → Ground
@@ -42,7 +42,7 @@ upstream t ss v = map (held_by t ss v) (live_vertices t)
 
 -- 19: the vertex at place i of the order is not live, is repeated, or has a step to itself or an earlier entry
 abbrev pub fault_at : Table → List ℕ → ℕ → Ground
-fault_at t order i = record { answer = BadOrder i; applies = at_fault t order i }
+fault_at t order i = record { answer = Err (BadOrder i); applies = at_fault t order i }
 
 -- 19, for each place in turn
 abbrev pub order_faults : Table → List ℕ → List Ground
@@ -50,7 +50,7 @@ order_faults t order = map (fault_at t order) (up_to (length order))
 
 -- 19: the order stops short
 abbrev pub short_order : Table → List ℕ → Ground
-short_order t order = record { answer = BadOrder (length order); applies = stops_short t order }
+short_order t order = record { answer = Err (BadOrder (length order)); applies = stops_short t order }
 
 -- ---- the order for each call
 

@@ -14,7 +14,7 @@ ghost use Rattle.desk_looks.specs.Held.{MarkedWhere, record_free, Held, Joined};
 
 use desk::{RELEASED, REVIEWED};
 use desk_fits::desk_fits;
-use layout::Answer;
+use layout::{Answer, Refusal};
 
 fn either(held: bool, mark: u8) -> bool
     ensures { result ≡ (held || eqb mark 1) }
@@ -30,10 +30,8 @@ fn hold_row(m: &[u8; 65536], u: usize, held: &mut [bool; 256])
     requires { (u < vertex_limit) × (length held.old ≡ vertex_limit) }
     ensures { Joined (matrix m.now u) vertex_limit held.old held.new }
 {
-    let mut k = 0;
-    while k < 256 {
+    for k in 0..256 {
         held[k] = either(held[k], m[u * 256 + k]);
-        k += 1;
     }
 }
 
@@ -54,10 +52,8 @@ fn mark_held(m: &[u8; 65536], s: &[u32], n: usize) -> [bool; 256]
     ensures { Held (matrix m.now) s.now n result }
 {
     let mut held = [false; 256];
-    let mut u = 0;
-    while u < n {
+    for u in 0..n {
         hold_from(m, s, u, &mut held);
-        u += 1;
     }
     held
 }
@@ -77,10 +73,8 @@ fn mark_free(s: &[u32], n: usize, held: &[bool; 256]) -> [bool; 256]
     ensures { MarkedWhere (record_free s.now held.now) n result }
 {
     let mut marks = [false; 256];
-    let mut k = 0;
-    while k < n {
+    for k in 0..n {
         marks[k] = is_free(s[k], held[k]);
-        k += 1;
     }
     marks
 }
@@ -103,7 +97,7 @@ pub fn desk_releasable(t: &[u32], s: &[u32], out: &mut [u32]) -> Answer
     ensures { result_of result out.new ≡ on_desk (desk_of t.now s.now) out.old (releasable_result s.now out.old) }
 {
     if !desk_fits(t, s) {
-        return Answer::NotWellFormed;
+        return Err(Refusal::NotWellFormed);
     }
     releasable_formed(t, s, out)
 }

@@ -1,8 +1,9 @@
 -- What a release answers and leaves. Assumes nothing.
+use Rattle.std.specs.Prelude.{Option, Some, None, Ok, Err}
 use mathlib.Core.Path.{◌≡◌, refl, sym, ap, ap₂, ◌∙◌}
 use mathlib.Core.Bool.{Bool, true, false, not, ◌||◌}
 use mathlib.Core.List.{List, []}
-use Prim.Native.Nat.{ℕ, ◌+◌, ◌-◌, ◌≤◌, ◌<◌}
+use Prim.Native.Nat.{ℕ, ◌+◌, ◌≤◌, ◌<◌}
 use native.Mathlib.Omega.{arith}
 use lib.Dec.{eqb}
 use lib.ListN.{length, get_or, drop, set}
@@ -12,9 +13,7 @@ use Rattle.lists.specs.Lists.{up_to, word_at}
 use Rattle.lists.proofs.Tab.{length-tab}
 use Rattle.lists.proofs.Flat.{tab-getD}
 use Rattle.layout.specs.declared.VertexIndex.{VertexIndex}
-use Rattle.layout.specs.declared.Found.{Found}
-use Rattle.layout.specs.declared.Found.TheVariants.{At, Nothing}
-use Rattle.layout.specs.declared.Answer.TheVariants.{Done, NotReviewed, UpstreamHeld}
+use Rattle.layout.specs.declared.Refusal.TheVariants.{NotReviewed, UpstreamHeld}
 use Rattle.layout.specs.Content.{Table, live_vertices, position}
 use Rattle.layout.specs.Layout.{limit, vertex_limit, vertex_count, vertex_at, read}
 use Rattle.layout.specs.Inner.{Formed}
@@ -46,33 +45,27 @@ pub marked-held : (mark : Bool) (x : ℕ) → not mark ≡ false → not (eqb x 
 unfolding ◌and◌
 marked-held mark x h = rw (not-false mark h)
 
--- ---- a loop in which `left` of the n records are left, from k on; r is what `is_held` found of record k
+-- ---- a loop over the n records, with `drop k` of them left; r is what `is_held` found of record k
 
-pub held_first : (p : ℕ → Bool) (n : ℕ) → first_passing_from p (n - n) (drop (n - n) (up_to n)) ≡ first_passing p (up_to n)
-unfolding first_passing
-held_first p n = let z : n - n ≡ 0 = omega arith in rw z
-
-module _ (ss : List ℕ) (marks : List Bool) (n left : ℕ) (whole : Found) (most : left ≤ n)
-    (inv : first_passing_from (held_at ss marks) (n - left) (drop (n - left) (up_to n)) ≡ whole) where
-  module _ (r : Bool) (e : r ≡ (is_marked marks (n - left) and not (eqb (word_at ss (n - left)) released))) (h : 0 < left) where
-    pub held_on : r ≡ false → first_passing_from (held_at ss marks) (n - (left - 1)) (drop (n - (left - 1)) (up_to n)) ≡ whole
+module _ (ss : List ℕ) (marks : List Bool) (n k : ℕ) (whole : Option ℕ)
+    (inv : first_passing_from (held_at ss marks) k (drop k (up_to n)) ≡ whole) where
+  module _ (r : Bool) (e : r ≡ (is_marked marks k and not (eqb (word_at ss k) released))) (h : k < n) where
+    pub held_on : r ≡ false → first_passing_from (held_at ss marks) (k + 1) (drop (k + 1) (up_to n)) ≡ whole
     unfolding held_at
-    held_on q =
-        let s : n - (left - 1) ≡ n - left + 1 = omega arith in
-        rw s (passing-on (held_at ss marks) (λ k. k) n (n - left) whole inv n refl r e (omega arith) q)
+    held_on q = passing-on (held_at ss marks) (λ i. i) n k whole inv n refl r e h q
 
-    pub held-here : r ≡ true → At (n - left) ≡ whole
+    pub held-here : r ≡ true → Some k ≡ whole
     unfolding held_at
-    held-here q = passing-here (held_at ss marks) (λ k. k) n (n - left) whole inv n refl r e (omega arith) q
+    held-here q = passing-here (held_at ss marks) (λ i. i) n k whole inv n refl r e h q
 
-  pub held_none : left ≤ 0 → Nothing ≡ whole
-  held_none h = passing-none (held_at ss marks) (λ k. k) n (n - left) whole inv n refl (omega arith)
+  pub held_none : n ≤ k → None ≡ whole
+  held_none h = passing-none (held_at ss marks) (λ i. i) n k whole inv n refl h
 
 -- n is what `vertex_count` returned, s what `first_held` returned
-pub upstream-within : (ws : List ℕ) (p : ℕ → Bool) (n : ℕ) (s : Found) (k : ℕ) → Formed limit ws → n ≡ vertex_count ws
-    → s ≡ first_passing p (up_to n) → s ≡ At k → k < vertex_limit
+pub upstream-within : (ws : List ℕ) (p : ℕ → Bool) (n : ℕ) (s : Option ℕ) (k : ℕ) → Formed limit ws → n ≡ vertex_count ws
+    → s ≡ first_passing p (up_to n) → s ≡ Some k → k < vertex_limit
 upstream-within ws p n s k f q e h =
-    let l : k < n = rw length-tab at (on-first-passing p Done [] (result_of (Done 0) []) 0 (up_to n) k (sym e ∙ h)).0 in omega (arith, f.shape.vertices-le)
+    let l : k < n = rw length-tab at (on-first-passing p Ok [] (result_of (Ok 0) []) 0 (up_to n) k (sym e ∙ h)).0 in omega (arith, f.shape.vertices-le)
 
 -- ---- the first that holds: marks are those of the vertices with a step into v
 
@@ -92,7 +85,7 @@ module _ (ws ss : List ℕ) (v : ℕ) (f : Formed limit ws) (marks : List Bool)
       (sym (in-state-at (read limit ws) ss k (live-ascends limit ws f) l released))
 
   -- n is what `vertex_count` returned, s what `first_held` returned
-  module _ (n : ℕ) (s : Found) (q : n ≡ vertex_count ws) (e : s ≡ first_passing (held_at ss marks) (up_to n)) where
+  module _ (n : ℕ) (s : Option ℕ) (q : n ≡ vertex_count ws) (e : s ≡ first_passing (held_at ss marks) (up_to n)) where
     first_holds : s ≡ first_passing (holds (read limit ws) ss v) (live_vertices (read limit ws))
     first_holds =
         e ∙ ap (λ (k : ℕ). first_passing (held_at ss marks) (up_to k)) (q ∙ sym (live-length limit ws))
@@ -100,35 +93,35 @@ module _ (ws ss : List ℕ) (v : ℕ) (f : Formed limit ws) (marks : List Bool)
         (λ k h. held-holds k (rw live-length at h))
         ∙ ap (first_passing (holds (read limit ws) ss v)) (tab-getD (live_vertices (read limit ws)) 0)
 
-    module _ (k : ℕ) (h : s ≡ At k) where
+    module _ (k : ℕ) (h : s ≡ Some k) where
       found : (r : Result) → (k < length (live_vertices (read limit ws)))
           × (result_of (upstream_held (get_or (live_vertices (read limit ws)) k 0)) ss ≡ on_unheld (read limit ws) v ss r)
       found r = on-first-passing (holds (read limit ws) ss v) upstream_held ss r 0 (live_vertices (read limit ws)) k (sym first_holds ∙ h)
 
       -- x is what `vertex_number` returned
-      pub upstream-named : (x : ℕ) → x ≡ (vertex_at ws k).number → result_of (UpstreamHeld (record { 0 = x })) ss ≡ release_reviewed_result v ss (read limit ws)
+      pub upstream-named : (x : ℕ) → x ≡ (vertex_at ws k).number → result_of (Err (UpstreamHeld (record { 0 = x }))) ss ≡ release_reviewed_result v ss (read limit ws)
       unfolding release_reviewed_result
       upstream-named x w =
-          let r = found (result_of (Done 0) (with_state (read limit ws) v released ss)) in
+          let r = found (result_of (Ok 0) (with_state (read limit ws) v released ss)) in
           ap (λ (y : ℕ). result_of (upstream_held y) ss) (w ∙ sym (live_at limit ws k (rw live-length at r.0))) ∙ r.1
 
     -- none holds, and the record of v is i
-    pub release-done : (i : ℕ) → position v (live_vertices (read limit ws)) ≡ At i → s ≡ Nothing
-        → result_of (Done 0) (set ss i released) ≡ release_reviewed_result v ss (read limit ws)
+    pub release-done : (i : ℕ) → position v (live_vertices (read limit ws)) ≡ Some i → s ≡ None
+        → result_of (Ok 0) (set ss i released) ≡ release_reviewed_result v ss (read limit ws)
     unfolding release_reviewed_result
     release-done i p h =
-        ap (λ (xs : List ℕ). result_of (Done 0) xs) (sym (with-state-found (read limit ws) ss v i p released))
+        ap (λ (xs : List ℕ). result_of (Ok 0) xs) (sym (with-state-found (read limit ws) ss v i p released))
         ∙ on-none-first (holds (read limit ws) ss v) upstream_held ss _ (live_vertices (read limit ws)) (sym first_holds ∙ h)
 
 -- ---- the state of a live vertex: its record is i
 
-module _ (t : Table) (ss : List ℕ) (v : VertexIndex) (i : ℕ) (e : position v.0 (live_vertices t) ≡ At i) where
-  pub released-stays : get_or ss i 0 ≡ released → result_of (Done 0) ss ≡ release_live_result v.0 ss t
+module _ (t : Table) (ss : List ℕ) (v : VertexIndex) (i : ℕ) (e : position v.0 (live_vertices t) ≡ Some i) where
+  pub released-stays : get_or ss i 0 ≡ released → result_of (Ok 0) ss ≡ release_live_result v.0 ss t
   unfolding release_live_result
   released-stays h = rw (in-state-found t ss v.0 i e released, eq-eqb (get_or ss i 0) released h)
 
   module _ (n : get_or ss i 0 ≡ released → ⊥) where
-    pub not-reviewed : (get_or ss i 0 ≡ reviewed → ⊥) → result_of (NotReviewed v) ss ≡ release_live_result v.0 ss t
+    pub not-reviewed : (get_or ss i 0 ≡ reviewed → ⊥) → result_of (Err (NotReviewed v)) ss ≡ release_live_result v.0 ss t
     unfolding release_live_result releasing on_reviewed
     not-reviewed h =
         rw (in-state-found t ss v.0 i e released, ne_eqb (get_or ss i 0) released n, in-state-found t ss v.0 i e reviewed, ne_eqb (get_or ss i 0) reviewed h)

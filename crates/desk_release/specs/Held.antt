@@ -1,8 +1,7 @@
 -- What inner functions of review and release are stated with. Assumes nothing.
-use Rattle.std.specs.Prelude.{Bool, not, cond, List, ℕ, eqb}
+use Rattle.std.specs.Prelude.{Bool, not, cond, List, ℕ, eqb, Ok}
 use Rattle.lists.specs.Tests.{◌and◌}
 use Rattle.lists.specs.Lists.{word_at}
-use Rattle.layout.specs.declared.Answer.TheVariants.{Done}
 use Rattle.layout.specs.Content.{Table}
 use Rattle.layout.specs.Answers.{Result, result_of}
 use Rattle.marks.specs.Marks.{is_marked}
@@ -15,8 +14,8 @@ held_at ss marks k = is_marked marks k and not (eqb (word_at ss k) released)
 
 -- the release of a reviewed vertex: 18
 unfoldable pub release_reviewed_result : ℕ → List ℕ → Table → Result
-release_reviewed_result v ss t = on_unheld t v ss (result_of (Done 0) (with_state t v released ss))
+release_reviewed_result v ss t = on_unheld t v ss (result_of (Ok 0) (with_state t v released ss))
 
 -- the release of a live vertex: a released one is done, then 17, 18
 unfoldable pub release_live_result : ℕ → List ℕ → Table → Result
-release_live_result v ss t = cond (in_state t ss released v) (result_of (Done 0) ss) (releasing v ss t)
+release_live_result v ss t = cond (in_state t ss released v) (result_of (Ok 0) ss) (releasing v ss t)

@@ -4,8 +4,6 @@
 ghost use Rattle.std.specs.Prelude.{◌≡◌, not, ◌<◌, ◌≤◌, eqb, length};
 ghost use Rattle.lists.specs.Tests.{◌and◌};
 ghost use Rattle.lists.specs.Lists.{up_to};
-ghost use Rattle.layout.specs.declared.Found.TheVariants.{At};
-ghost use Rattle.layout.specs.declared.Answer.TheVariants.{Done};
 ghost use Rattle.layout.specs.Content.{live_vertices, position};
 ghost use Rattle.layout.specs.Layout.{limit, vertex_limit, read};
 ghost use Rattle.layout.specs.Inner.{Formed};
@@ -18,7 +16,7 @@ ghost use Rattle.desk_release.specs.Held.{held_at, release_reviewed_result, rele
 
 use desk::{RELEASED, REVIEWED};
 use desk_fits::desk_fits;
-use layout::{Answer, Found, VertexIndex};
+use layout::{Answer, Refusal, VertexIndex};
 
 // Whether a record holds what it has a step into: it is marked, and not released.
 fn is_held(mark: bool, x: u32) -> bool
@@ -31,51 +29,45 @@ fn is_held(mark: bool, x: u32) -> bool
 }
 
 // The first of n records that is marked and not released.
-fn first_held(s: &[u32], marks: &[bool; 256], n: usize) -> Found
+fn first_held(s: &[u32], marks: &[bool; 256], n: usize) -> Option<usize>
     requires { (n ≤ vertex_limit) × (length s.now ≡ vertex_limit) }
     ensures { result ≡ first_passing (held_at s.now marks.now) (up_to n) }
 {
-    let mut left = n;
-    while 0 < left {
-        let k = n - left;
+    for k in 0..n {
         if is_held(marks[k], s[k]) {
-            return Found::At(k);
+            return Some(k);
         }
-        left -= 1;
     }
-    Found::Nothing
+    None
 }
 
 // Releases the reviewed vertex of record i, where every vertex with a step into it is released.
 fn release_reviewed(t: &[u32], s: &mut [u32], v: VertexIndex, i: usize) -> Answer
     requires formed { Formed limit t.now }
-    requires s_len { (length s.old ≡ vertex_limit) × (i < vertex_limit) × (position v.0 (live_vertices (read limit t.now)) ≡ At i) }
+    requires s_len { (length s.old ≡ vertex_limit) × (i < vertex_limit) × (position v.0 (live_vertices (read limit t.now)) ≡ Some i) }
     ensures { result_of result s.new ≡ release_reviewed_result v.0 s.old (read limit t.now) }
 {
     let marks = desk_upstream::upstream_marks(t, v.0);
     let n = layout::vertex_count(t);
-    let f = first_held(s, &marks, n);
-    match f {
-        Found::At(k) => Answer::UpstreamHeld(VertexIndex(layout::vertex_number(t, k))),
-        Found::Nothing => {
-            s[i] = RELEASED;
-            Answer::Done(0)
-        }
+    if let Some(k) = first_held(s, &marks, n) {
+        return Err(Refusal::UpstreamHeld(VertexIndex(layout::vertex_number(t, k))));
     }
+    s[i] = RELEASED;
+    Ok(0)
 }
 
 // The release of the vertex of record i.
 fn release_live(t: &[u32], s: &mut [u32], v: VertexIndex, i: usize) -> Answer
     requires formed { Formed limit t.now }
-    requires s_len { (length s.old ≡ vertex_limit) × (i < vertex_limit) × (position v.0 (live_vertices (read limit t.now)) ≡ At i) }
+    requires s_len { (length s.old ≡ vertex_limit) × (i < vertex_limit) × (position v.0 (live_vertices (read limit t.now)) ≡ Some i) }
     ensures { result_of result s.new ≡ release_live_result v.0 s.old (read limit t.now) }
 {
     let x = s[i];
     if x == RELEASED {
-        return Answer::Done(0);
+        return Ok(0);
     }
     if x != REVIEWED {
-        return Answer::NotReviewed(v);
+        return Err(Refusal::NotReviewed(v));
     }
     release_reviewed(t, s, v, i)
 }
@@ -85,11 +77,8 @@ pub fn release_formed(t: &[u32], s: &mut [u32], v: VertexIndex) -> Answer
     requires s_len { length s.old ≡ vertex_limit }
     ensures { result_of result s.new ≡ release_result v.0 s.old (read limit t.now) }
 {
-    let f = find::find_vertex(t, v);
-    match f {
-        Found::Nothing => Answer::VertexNotLive(v),
-        Found::At(i) => release_live(t, s, v, i),
-    }
+    let i = find::find_vertex(t, v).ok_or(Refusal::VertexNotLive(v))?;
+    release_live(t, s, v, i)
 }
 
 // Releases a vertex: it must be reviewed, and every vertex with a step into it released. A released one stays so.
@@ -97,7 +86,7 @@ pub fn desk_release(t: &[u32], s: &mut [u32], v: VertexIndex) -> Answer
     ensures { result_of result s.new ≡ on_desk (desk_of t.now s.old) s.old (release_result v.0 s.old) }
 {
     if !desk_fits(t, s) {
-        return Answer::NotWellFormed;
+        return Err(Refusal::NotWellFormed);
     }
     release_formed(t, s, v)
 }

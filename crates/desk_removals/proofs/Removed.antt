@@ -4,7 +4,7 @@ use mathlib.Core.List.{List}
 use Prim.Native.Nat.{ℕ}
 use lib.ListN.{take}
 use Rattle.lists.specs.Lists.{other_than, itself}
-use Rattle.layout.specs.declared.Answer.{Answer}
+use Rattle.layout.specs.Answers.{Answer}
 use Rattle.layout.specs.Inner.{vertex_column}
 use Rattle.layout.specs.Answers.{result_of, on_formed}
 use Rattle.edits.specs.Results.{remove_vertex_result, merge_result}

@@ -8,7 +8,7 @@ ghost use Rattle.desk.specs.Desk.{desk_of, outcome, desk_edit};
 ghost use Rattle.desk_states.specs.Following.{Opened};
 
 use desk_states::{follow_done, is_open, note_numbers};
-use layout::{Answer, VertexIndex};
+use layout::{Answer, Refusal, VertexIndex};
 
 // The removal, from a desk that was found open, with its n numbers noted.
 fn remove_noted(
@@ -30,7 +30,7 @@ pub fn desk_remove_vertex(t: &mut [u32], s: &mut [u32], v: VertexIndex) -> Answe
     ensures { outcome result (desk_of t.new s.new) ≡ desk_edit (remove (vertex v.0)) (desk_of t.old s.old) }
 {
     if !is_open(t, s) {
-        return Answer::NotWellFormed;
+        return Err(Refusal::NotWellFormed);
     }
     let n = layout::vertex_count(t);
     let numbers = note_numbers(t);
@@ -58,7 +58,7 @@ pub fn desk_merge_vertices(t: &mut [u32], s: &mut [u32], v: VertexIndex, w: Vert
     ensures { outcome result (desk_of t.new s.new) ≡ desk_edit (merge v.0 w.0) (desk_of t.old s.old) }
 {
     if !is_open(t, s) {
-        return Answer::NotWellFormed;
+        return Err(Refusal::NotWellFormed);
     }
     let n = layout::vertex_count(t);
     let numbers = note_numbers(t);

@@ -1,12 +1,10 @@
 -- What a review answers and leaves. Assumes nothing.
+use Rattle.std.specs.Prelude.{Option, Some, Ok}
 use mathlib.Core.Path.{◌≡◌, sym, ◌∙◌}
 use mathlib.Core.List.{List}
 use Prim.Native.Nat.{ℕ}
 use lib.ListN.{get_or, set}
 use borrow.Author.Tests.{eq-eqb, ne_eqb}
-use Rattle.layout.specs.declared.Found.{Found}
-use Rattle.layout.specs.declared.Found.TheVariants.{At}
-use Rattle.layout.specs.declared.Answer.TheVariants.{Done}
 use Rattle.layout.specs.Content.{live_vertices, position}
 use Rattle.layout.specs.Layout.{limit, read}
 use Rattle.layout.specs.Answers.{result_of, vertex_missing}
@@ -27,9 +25,9 @@ stays x ne = rw (ne_eqb x waiting ne)
 
 -- ---- p is what `find_vertex` returned
 
-module _ (ws ss : List ℕ) (v i : ℕ) (p : Found) (e : p ≡ position v (live_vertices (read limit ws))) (h : p ≡ At i) where
+module _ (ws ss : List ℕ) (v i : ℕ) (p : Option ℕ) (e : p ≡ position v (live_vertices (read limit ws))) (h : p ≡ Some i) where
   -- exit is what `review_record` left
-  pub review-done : (exit : List ℕ) → exit ≡ set ss i (once_reviewed (get_or ss i 0)) → result_of (Done 0) exit ≡ review_result v ss (read limit ws)
+  pub review-done : (exit : List ℕ) → exit ≡ set ss i (once_reviewed (get_or ss i 0)) → result_of (Ok 0) exit ≡ review_result v ss (read limit ws)
   unfolding review_result
   review-done exit q =
       rw (q, with-state-found (read limit ws) ss v i (sym e ∙ h), state-found (read limit ws) ss v i (sym e ∙ h))

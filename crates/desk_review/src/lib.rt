@@ -11,7 +11,7 @@ ghost use Rattle.desk.specs.Releases.{on_desk, once_reviewed, review_result};
 
 use desk::{REVIEWED, WAITING};
 use desk_fits::desk_fits;
-use layout::{Answer, Found, VertexIndex};
+use layout::{Answer, Refusal, VertexIndex};
 
 // What a review makes of a state.
 fn once_reviewed(x: u32) -> u32
@@ -32,14 +32,9 @@ fn review_formed(t: &[u32], s: &mut [u32], v: VertexIndex) -> Answer
     requires s_len { length s.old ≡ vertex_limit }
     ensures { result_of result s.new ≡ review_result v.0 s.old (read limit t.now) }
 {
-    let f = find::find_vertex(t, v);
-    match f {
-        Found::Nothing => Answer::VertexNotLive(v),
-        Found::At(i) => {
-            review_record(s, i);
-            Answer::Done(0)
-        }
-    }
+    let i = find::find_vertex(t, v).ok_or(Refusal::VertexNotLive(v))?;
+    review_record(s, i);
+    Ok(0)
 }
 
 // Reviews a vertex: a waiting one becomes reviewed, the others stay.
@@ -47,7 +42,7 @@ pub fn desk_review(t: &[u32], s: &mut [u32], v: VertexIndex) -> Answer
     ensures { result_of result s.new ≡ on_desk (desk_of t.now s.old) s.old (review_result v.0 s.old) }
 {
     if !desk_fits(t, s) {
-        return Answer::NotWellFormed;
+        return Err(Refusal::NotWellFormed);
     }
     review_formed(t, s, v)
 }

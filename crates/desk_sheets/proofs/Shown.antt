@@ -1,19 +1,16 @@
 -- The sheets of records and of states, from what the code read and wrote. Assumes nothing.
+use Rattle.std.specs.Prelude.{Option, Some, ok_or, Ok}
 use mathlib.Core.Path.{◌≡◌, sym, ap, ◌∙◌}
 use mathlib.Core.Bool.{Bool, true, false}
 use mathlib.Core.List.{List, [], ◌∷◌}
 use Prim.Native.Nat.{ℕ, ◌<◌}
 use Rattle.lists.proofs.Tab.{length-tab}
-use Rattle.layout.specs.declared.Found.{Found}
-use Rattle.layout.specs.declared.Found.TheVariants.{At, Nothing}
-use Rattle.layout.specs.declared.VertexIndex.{VertexIndex}
-use Rattle.layout.specs.declared.HyperedgeIndex.{HyperedgeIndex}
-use Rattle.layout.specs.declared.Answer.TheVariants.{Done, VertexNotLive, HyperedgeNotLive}
+use Rattle.layout.specs.declared.Refusal.{Refusal}
 use Rattle.layout.specs.Content.{Table, vertex_of, hyperedge_of, live_vertices, live_hyperedges, position}
 use Rattle.layout.specs.Layout.{limit, vertex_count, hyperedge_count, vertex_at, hyperedge_at, read}
 use Rattle.layout.specs.Inner.{Formed}
-use Rattle.layout.specs.Answers.{result_of, vertex_missing, hyperedge_missing}
-use Rattle.layout.proofs.Answers.{on-missing, on-found}
+use Rattle.layout.specs.Answers.{Answer, result_of, vertex_missing, hyperedge_missing}
+use Rattle.layout.proofs.Answers.{on-found, taken}
 use Rattle.layout.proofs.Read.{vertex-found, hyperedge-found}
 use Rattle.edits.specs.Results.{members_of}
 use Rattle.reads.specs.Reads.{vertex_weight, hyperedge_weight}
@@ -71,22 +68,21 @@ module _ (plain : Bool) (ss ws : List ℕ) (f : Formed limit ws) (i v : ℕ) (l 
   unfolding tube_sheet
   tube-worded h e g = rw (h, here) (then p b c _ _ r q e (rw n at g))
 
--- k is what `find_vertex` returned
-pub tube-missing : (plain : Bool) (ss ws : List ℕ) (v : VertexIndex) (k : Found) (b : List ℕ) (at : ℕ) → k ≡ position v.0 (live_vertices (read limit ws)) → k ≡ Nothing
-    → result_of (VertexNotLive v) b ≡ tube_result plain v.0 ss (page b at) (read limit ws)
-unfolding tube_result
-tube-missing plain ss ws v k b at e h = on-missing (live_vertices (read limit ws)) vertex_missing v.0 b _ k e h
+-- k is what `find_vertex` returned, and a what `ok_or` made of it
+module _ (ws : List ℕ) (v i : ℕ) (k : Option ℕ) (e : k ≡ position v (live_vertices (read limit ws)))
+    (z : Refusal) (a : Answer) (made : a ≡ ok_or k z) (got : a ≡ Ok i) where
+  lies : k ≡ Some i
+  lies = taken k z a made i got
 
-module _ (ws : List ℕ) (v i : ℕ) (k : Found) (e : k ≡ position v (live_vertices (read limit ws))) (h : k ≡ At i) where
   pub tube-within : i < vertex_count ws
-  tube-within = (vertex-found limit ws v i (sym e ∙ h)).0
+  tube-within = (vertex-found limit ws v i (sym e ∙ lies)).0
 
   pub tube-shown : (plain : Bool) (ss : List ℕ) (p : Page) (c : List ℕ) (q : ℕ) → page c q ≡ write (tube_sheet plain (vertex_at ws i).number ss (read limit ws)) p
-      → result_of (Done q) c ≡ tube_result plain v ss p (read limit ws)
+      → result_of (Ok q) c ≡ tube_result plain v ss p (read limit ws)
   unfolding tube_result
   tube-shown plain ss p c q w =
-      ap paged (w ∙ ap (λ (x : ℕ). write (tube_sheet plain x ss (read limit ws)) p) (vertex-found limit ws v i (sym e ∙ h)).1)
-      ∙ on-found (live_vertices (read limit ws)) vertex_missing v p.bytes _ k e i h
+      ap paged (w ∙ ap (λ (x : ℕ). write (tube_sheet plain x ss (read limit ws)) p) (vertex-found limit ws v i (sym e ∙ lies)).1)
+      ∙ on-found (live_vertices (read limit ws)) vertex_missing v p.bytes _ k e i lies
 
 -- ---- the transfer of record j
 
@@ -105,19 +101,18 @@ module _ (plain : Bool) (ws : List ℕ) (f : Formed limit ws) (j : ℕ) (l : j <
   unfolding transfer_sheet transfer_form
   transfer-worded h e = rw (h, found) e
 
--- k is what `find_hyperedge` returned
-pub transfer-missing : (plain : Bool) (ws : List ℕ) (x : HyperedgeIndex) (k : Found) (b : List ℕ) (at : ℕ) → k ≡ position x.0 (live_hyperedges (read limit ws))
-    → k ≡ Nothing → result_of (HyperedgeNotLive x) b ≡ transfer_result plain x.0 (page b at) (read limit ws)
-unfolding transfer_result
-transfer-missing plain ws x k b at e h = on-missing (live_hyperedges (read limit ws)) hyperedge_missing x.0 b _ k e h
+-- k is what `find_hyperedge` returned, and a what `ok_or` made of it
+module _ (ws : List ℕ) (x j : ℕ) (k : Option ℕ) (e : k ≡ position x (live_hyperedges (read limit ws)))
+    (z : Refusal) (a : Answer) (made : a ≡ ok_or k z) (got : a ≡ Ok j) where
+  stands : k ≡ Some j
+  stands = taken k z a made j got
 
-module _ (ws : List ℕ) (x j : ℕ) (k : Found) (e : k ≡ position x (live_hyperedges (read limit ws))) (h : k ≡ At j) where
   pub transfer-within : j < hyperedge_count ws
-  transfer-within = (hyperedge-found limit ws x j (sym e ∙ h)).0
+  transfer-within = (hyperedge-found limit ws x j (sym e ∙ stands)).0
 
   pub transfer-shown : (plain : Bool) (p : Page) (c : List ℕ) (q : ℕ) → page c q ≡ write (transfer_sheet plain (hyperedge_at limit ws j).number (read limit ws)) p
-      → result_of (Done q) c ≡ transfer_result plain x p (read limit ws)
+      → result_of (Ok q) c ≡ transfer_result plain x p (read limit ws)
   unfolding transfer_result
   transfer-shown plain p c q w =
-      ap paged (w ∙ ap (λ (y : ℕ). write (transfer_sheet plain y (read limit ws)) p) (hyperedge-found limit ws x j (sym e ∙ h)).1)
-      ∙ on-found (live_hyperedges (read limit ws)) hyperedge_missing x p.bytes _ k e j h
+      ap paged (w ∙ ap (λ (y : ℕ). write (transfer_sheet plain y (read limit ws)) p) (hyperedge-found limit ws x j (sym e ∙ stands)).1)
+      ∙ on-found (live_hyperedges (read limit ws)) hyperedge_missing x p.bytes _ k e j stands

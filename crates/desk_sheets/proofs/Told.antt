@@ -1,4 +1,5 @@
 -- What is releasable and whether an order is accepted, as the desk's calls told. Assumes nothing.
+use Rattle.std.specs.Prelude.{Ok, Err, IsErrAnd}
 use mathlib.Core.Path.{◌≡◌, ap, ◌∙◌}
 use mathlib.Core.Bool.{Bool, true, false}
 use mathlib.Core.List.{List, [], ◌∷◌}
@@ -7,11 +8,11 @@ use native.Mathlib.Omega.{arith}
 use lib.ListN.{length, take, drop, replicate, length-replicate}
 use Rattle.lists.specs.Lists.{filter}
 use Rattle.lists.proofs.Cases.{on}
-use Rattle.layout.specs.declared.Answer.{Answer}
-use Rattle.layout.specs.declared.Answer.TheVariants.{Done}
+use Rattle.layout.specs.declared.Refusal.{Refusal}
+use Rattle.layout.specs.Answers.{Answer}
 use Rattle.layout.specs.Content.{Table, live_vertices}
 use Rattle.layout.specs.Layout.{limit, read}
-use Rattle.layout.specs.Answers.{number, detail, Result, result_of, listed}
+use Rattle.layout.specs.Answers.{detail, Result, result_of, listed}
 use Rattle.layout.proofs.Read.{formed-of, live-length}
 use Rattle.desk.specs.Desk.{desk_of, desk_fits}
 use Rattle.desk.specs.Releases.{on_desk, is_releasable, releasable, releasable_result}
@@ -20,7 +21,8 @@ use Rattle.desk.proofs.Edits.{desk-fits-of}
 use Rattle.wording.specs.Texts.{text}
 use Rattle.wording.specs.Pages.{Page, page, write}
 use Rattle.wording.specs.Forms.{number_line}
-use Rattle.saying.proofs.Listings.{listing-words, listing-within, word-refused, word-written}
+use Rattle.saying.proofs.Listings.{listing-words, listing-within}
+use Rattle.saying.proofs.Sheets.{word-refused, word-written}
 use Rattle.desk_sheets.specs.Sheets.{releasable_line, order_sheet, order_result}
 
 -- a call on a desk that fits answers of its content
@@ -67,22 +69,24 @@ module _ (ws ss : List ℕ) (f : desk_fits (desk_of ws ss) ≡ true) (a : Answer
       h ∙ ap (λ (xs : List ℕ). write (number_line (text "can be released now: ") (text "none") xs) p)
       (listing-words (releasable ss (read limit ws)) releasable_room (releasable-fits ws ss f) a w answered d m)
 
--- ---- the order: a is what the call answered, n its number
+-- ---- the order: a is what the call answered
 
-module _ (ws ss list : List ℕ) (f : desk_fits (desk_of ws ss) ≡ true) (a : Answer) (e : result_of a [] ≡ on_desk (desk_of ws ss) [] (accept_result list)) (n : ℕ) (m : n ≡ number a)
+module _ (ws ss list : List ℕ) (f : desk_fits (desk_of ws ss) ≡ true) (a : Answer) (e : result_of a [] ≡ on_desk (desk_of ws ss) [] (accept_result list))
     (plain : Bool) where
   accepted : result_of a [] ≡ accept_result list (read limit ws)
   accepted = e ∙ on-fit ws ss [] (accept_result list) f
 
-  pub order-refused : (b : List ℕ) (at : ℕ) → (n ≡ 0 → ⊥) → result_of a b ≡ order_result plain list (page b at) (read limit ws)
+  pub order-refused : (r : Refusal) → a ≡ Err r → (x : Answer) → IsErrAnd x (λ y. y ≡ r) → (b : List ℕ) (at : ℕ)
+      → result_of x b ≡ order_result plain list (page b at) (read limit ws)
   unfolding order_result
-  order-refused b at h = word-refused a [] (accept_result list (read limit ws)) accepted (order_sheet plain) n m b at h
+  order-refused r h x by b at = word-refused a [] (accept_result list (read limit ws)) accepted (order_sheet plain) r h x by b at
 
-  pub order-plain : (p : Page) (c : List ℕ) (q : ℕ) → n ≡ 0 → plain ≡ true → page c q ≡ write (text "1\n") p → result_of (Done q) c ≡ order_result plain list p (read limit ws)
+  pub order-plain : (d : ℕ) → a ≡ Ok d → (p : Page) (c : List ℕ) (q : ℕ) → plain ≡ true → page c q ≡ write (text "1\n") p
+      → result_of (Ok q) c ≡ order_result plain list p (read limit ws)
   unfolding order_result order_sheet
-  order-plain p c q z h w = word-written a [] (accept_result list (read limit ws)) accepted (order_sheet plain) n m p (text "1\n") c q z (rw h) w
+  order-plain d g p c q h w = word-written a [] (accept_result list (read limit ws)) accepted (order_sheet plain) d g p (text "1\n") c q (rw h) w
 
-  pub order-worded : (p : Page) (c : List ℕ) (q : ℕ) → n ≡ 0 → plain ≡ false → page c q ≡ write (text "order accepted\n") p
-      → result_of (Done q) c ≡ order_result plain list p (read limit ws)
+  pub order-worded : (d : ℕ) → a ≡ Ok d → (p : Page) (c : List ℕ) (q : ℕ) → plain ≡ false → page c q ≡ write (text "order accepted\n") p
+      → result_of (Ok q) c ≡ order_result plain list p (read limit ws)
   unfolding order_result order_sheet
-  order-worded p c q z h w = word-written a [] (accept_result list (read limit ws)) accepted (order_sheet plain) n m p (text "order accepted\n") c q z (rw h) w
+  order-worded d g p c q h w = word-written a [] (accept_result list (read limit ws)) accepted (order_sheet plain) d g p (text "order accepted\n") c q (rw h) w

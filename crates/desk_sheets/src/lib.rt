@@ -11,7 +11,7 @@ ghost use Rattle.desk_sheets.specs.Sheets.{count_line, show_sheet, tube_sheet, t
 
 use desk_order::desk_accept_order;
 use desk_releasable::desk_releasable;
-use layout::{Answer, Found, HyperedgeIndex, VertexIndex};
+use layout::{Answer, HyperedgeIndex, Refusal, Reply, VertexIndex};
 use record_sheets::{put_transfer, put_transfers, put_transfers_of, put_tube, put_tubes};
 use wording::{put_form, put_text};
 use wording_lists::put_line;
@@ -71,11 +71,8 @@ pub fn show_tube(
     requires s_len { length s.now ≡ vertex_limit }
     ensures { result_of result out.new ≡ tube_result plain v.0 s.now (page out.old at) (read limit t.now) }
 {
-    let f = find::find_vertex(t, v);
-    match f {
-        Found::Nothing => Answer::VertexNotLive(v),
-        Found::At(i) => Answer::Done(put_tube_sheet(t, s, i, plain, out, at)),
-    }
+    let i = find::find_vertex(t, v).ok_or(Refusal::VertexNotLive(v))?;
+    Ok(put_tube_sheet(t, s, i, plain, out, at))
 }
 
 // The sheet of the transfer of record j.
@@ -95,11 +92,8 @@ pub fn show_transfer(t: &[u32], e: HyperedgeIndex, plain: bool, out: &mut [u8], 
     requires { Formed limit t.now }
     ensures { result_of result out.new ≡ transfer_result plain e.0 (page out.old at) (read limit t.now) }
 {
-    let f = find::find_hyperedge(t, e);
-    match f {
-        Found::Nothing => Answer::HyperedgeNotLive(e),
-        Found::At(j) => Answer::Done(put_transfer_sheet(t, j, plain, out, at)),
-    }
+    let j = find::find_hyperedge(t, e).ok_or(Refusal::HyperedgeNotLive(e))?;
+    Ok(put_transfer_sheet(t, j, plain, out, at))
 }
 
 // The line of the tubes that a release would release now.
@@ -109,7 +103,7 @@ fn put_releasable(t: &[u32], s: &[u32], out: &mut [u8], at: usize) -> usize
 {
     let mut words = [0u32; 256];
     let a = desk_releasable(t, s, &mut words);
-    let r = layout::reply_of(a);
+    let r = Reply::from(a);
     let k = r.detail as usize;
     put_line(out, at, b"can be released now: ", b"none", &words[0..k])
 }
@@ -141,13 +135,9 @@ pub fn judge_order(
     requires { desk_fits (desk_of t.now s.now) ≡ true }
     ensures { result_of result out.new ≡ order_result plain list.now (page out.old at) (read limit t.now) }
 {
-    let a = desk_accept_order(t, s, list);
-    let r = layout::reply_of(a);
-    if r.number != 0 {
-        return a;
-    }
+    desk_accept_order(t, s, list)?;
     if plain {
-        return Answer::Done(put_text(out, at, b"1\n"));
+        return Ok(put_text(out, at, b"1\n"));
     }
-    Answer::Done(put_text(out, at, b"order accepted\n"))
+    Ok(put_text(out, at, b"order accepted\n"))
 }

@@ -1,3 +1,3 @@
 pub mod Open
 pub mod Removed
-mod Turns
+pub mod Turns

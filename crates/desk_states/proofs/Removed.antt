@@ -1,4 +1,5 @@
 -- A call on the table that may take vertices out, through the desk: the noted numbers, and the states that follow. Assumes nothing.
+use Rattle.std.specs.Prelude.{Err}
 use mathlib.Core.Path.{◌≡◌, refl, sym, ap, ap₂, ◌∙◌, subst}
 use mathlib.Core.Bool.{Bool, true, false, not}
 use mathlib.Core.List.{List}
@@ -8,8 +9,8 @@ use lib.ListN.{take}
 use borrow.Author.Tests.{not-true, not-false, eqb-true}
 use Rattle.lists.specs.Lists.{filter, Ascending}
 use Rattle.lists.proofs.Cases.{on, clash}
-use Rattle.layout.specs.declared.Answer.{Answer}
-use Rattle.layout.specs.declared.Answer.TheVariants.{NotWellFormed}
+use Rattle.layout.specs.Answers.{Answer}
+use Rattle.layout.specs.declared.Refusal.TheVariants.{NotWellFormed}
 use Rattle.layout.specs.Content.{live_vertices}
 use Rattle.layout.specs.Layout.{limit, vertex_count, read}
 use Rattle.layout.specs.WellFormed.{well_formed}
@@ -26,7 +27,7 @@ use Rattle.desk_states.proofs.Open.{open-fits, unformed-unfit, shut-unfit, open-
 
 -- r is what a call on the words ws leaves: it may take vertices out where it is done, and changes nothing where it is refused
 pub record Removes (ws : List ℕ) (r : Result) : Type 0 where
-  pub unformed : well_formed limit ws ≡ false → r ≡ result_of NotWellFormed ws
+  pub unformed : well_formed limit ws ≡ false → r ≡ result_of (Err NotWellFormed) ws
   pub refused : eqb r.number 0 ≡ false → r.lent ≡ ws
   pub formed : well_formed limit ws ≡ true → well_formed limit r.lent ≡ true
   pub keeps : ℕ → Bool
@@ -47,17 +48,17 @@ edit-removes e ws keeps l = record {
 }
 
 -- where the desk does not fit
-unfit-edited : (r : Result) (d : Desk) → desk_fits d ≡ false → edited r d ≡ outcome NotWellFormed d
+unfit-edited : (r : Result) (d : Desk) → desk_fits d ≡ false → edited r d ≡ outcome (Err NotWellFormed) d
 unfolding edited
 unfit-edited r d u = rw u
 
 -- b is what `is_open` found, and the code tested `!b`
 pub shut-edited : (r : Result) (ws ss : List ℕ) (b : Bool) → b ≡ is_open (desk_of ws ss) → not b ≡ true
-    → outcome NotWellFormed (desk_of ws ss) ≡ edited r (desk_of ws ss)
+    → outcome (Err NotWellFormed) (desk_of ws ss) ≡ edited r (desk_of ws ss)
 shut-edited r ws ss b e h = sym (unfit-edited r (desk_of ws ss) (shut-unfit (desk_of ws ss) (sym e ∙ not-true b h)))
 
 pub edit-shut : (e : Edit) (ws ss : List ℕ) (b : Bool) → b ≡ is_open (desk_of ws ss) → not b ≡ true
-    → outcome NotWellFormed (desk_of ws ss) ≡ desk_edit e (desk_of ws ss)
+    → outcome (Err NotWellFormed) (desk_of ws ss) ≡ desk_edit e (desk_of ws ss)
 unfolding desk_edit
 edit-shut e ws ss b eb h = shut-edited (edit e ws) ws ss b eb h
 
@@ -108,7 +109,7 @@ module _ (ws ss : List ℕ) (n : ℕ) (numbers : List ℕ) (op : Opened ws ss n 
         (λ d. ap₂ desk_of (rm.refused d) (stays d)
         ∙ sym (following-same (desk_of ws ss) (open-fits (desk_of ws ss) op.is_open f)) ∙ ap (following (desk_of ws ss)) (sym (rm.refused d)))
 
-    refused-is : well_formed limit ws ≡ false → outcome a (desk_of left ss') ≡ outcome NotWellFormed (desk_of ws ss)
+    refused-is : well_formed limit ws ≡ false → outcome a (desk_of left ss') ≡ outcome (Err NotWellFormed) (desk_of ws ss)
     refused-is u =
         let q = rm.unformed u in
         let d : eqb (number a) 0 ≡ false = ap (λ (r : Result). eqb r.number 0) q in

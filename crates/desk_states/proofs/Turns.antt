@@ -1,4 +1,5 @@
 -- The numbers noted, the states moved down record after record, and what an answer leaves of the states. Assumes nothing.
+use Rattle.std.specs.Prelude.{Ok, Err, is_ok}
 use mathlib.Core.Path.{◌≡◌, refl, sym, ap, ap₂, ◌∙◌}
 use mathlib.Core.Bool.{Bool, true, false, not, cond}
 use mathlib.Core.List.{List, [], ◌∷◌, ◌++◌, map, append-nil}
@@ -9,17 +10,19 @@ use native.Mathlib.Omega.{arith}
 use lib.Dec.{eqb}
 use lib.ListN.{length, get_or, set, take, replicate, drop_of_length-le, length-replicate}
 use lib.Seq.{paste, sets-eq, take-suc, take-suc-set, take_all, length-take-le, get_or-take, get_or-drop}
-use borrow.Author.Tests.{not-true, not-false}
+use borrow.Author.Tests.{eqb-true, not-true, not-false}
 use Rattle.lists.specs.Lists.{memb, filter, tab, flat, pad}
 use Rattle.lists.proofs.Cases.{on, and_left}
 use Rattle.lists.proofs.Memb.{memb-getD}
 use Rattle.lists.proofs.Filter.{filter-snoc}
 use Rattle.lists.proofs.Kept.{memb-filter}
 use Rattle.lists.proofs.Tab.{length-tab, getD-tab, tab-suc}
-use Rattle.layout.specs.declared.Answer.{Answer}
+use Rattle.layout.specs.Answers.{Answer}
+use Rattle.layout.specs.declared.Refusal.{Refusal}
 use Rattle.layout.specs.Layout.{vertex_limit, vertex_size, vertices_at, vertex_word, vertex_count}
 use Rattle.layout.specs.Inner.{column, vertex_column}
-use Rattle.layout.specs.Answers.{number}
+use Rattle.layout.specs.Answers.{number, detail, result_of}
+use Rattle.layout.proofs.Answers.{agree}
 use Rattle.edits.proofs.Relaid.{relaid-none, relaid-pass, relaid-more, relaid-cleared}
 use Rattle.desk.specs.States.{state_in, states_by, all_waiting}
 use Rattle.desk.proofs.States.{state-at}
@@ -169,10 +172,20 @@ module _ (ws : List ℕ) where
   pub noted-all : (n i : ℕ) (r : List ℕ) → n ≡ vertex_count ws → i ≤ n → n ≤ i → length r ≡ vertex_limit → take i r ≡ column ws vertices_at vertex_size i → Noted ws r
   noted-all n i r en l g len e = record { room = len; front = let q : i ≡ vertex_count ws = omega arith in rw (← q) e }
 
--- ---- the answer's number, as `reply_of` gives it
+-- ---- the answer's number: r is what `is_ok` found of the answer
 
-pub done-by : (a : Answer) (x : ℕ) → x ≡ number a → eqb x 0 ≡ eqb (number a) 0
-done-by a x e = rw e
+-- a refusal of number 0 would be an answer that a call is done
+numbered-done : (f : Refusal) → eqb (number (Err f)) 0 ≡ true → ◌≡◌ {A = Answer} (Ok (detail (Err f))) (Err f)
+numbered-done f m =
+    let n : 0 ≡ number (Err f) = sym (eqb-true _ _ m) in
+    (agree (result_of (Err f) []) (ap (λ (k : ℕ). record { number = k; detail = detail (Err f); lent = [] }) n) refl).0
+
+refused-number : (f : Refusal) → eqb (number (Err f)) 0 ≡ true → ⊥
+refused-number f m = let q : ◌≡◌ {A = Answer} (Ok (detail (Err f))) (Err f) = numbered-done f m in let z : ◌≡◌ {A = ℕ} 0 1 = cc in omega arith
+
+pub done-by : (a : Answer) (r : Bool) → r ≡ is_ok a → r ≡ eqb (number a) 0
+done-by (Ok d) r e = e
+done-by (Err f) r e = e ∙ on (eqb (number (Err f)) 0) (λ m. absurd (refused-number f m)) (λ m. sym m)
 
 -- ---- what an answer leaves of the states: r is what `is_done` found, and the code tested `!r`
 

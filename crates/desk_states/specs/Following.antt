@@ -1,7 +1,7 @@
 -- The numbers that are noted before vertices are removed, and the states moved down to the records that are left. Assumes nothing.
 use Rattle.std.specs.Prelude.{◌≡◌, Bool, true, cond, List, [], ◌∷◌, ℕ, ◌+◌, ◌≤◌, ◌<◌, eqb, length, take}
 use Rattle.lists.specs.Lists.{filter, Ascending}
-use Rattle.layout.specs.declared.Answer.{Answer}
+use Rattle.layout.specs.Answers.{Answer}
 use Rattle.layout.specs.Layout.{limit, vertex_limit, size, vertex_count}
 use Rattle.layout.specs.Inner.{vertex_column}
 use Rattle.layout.specs.Answers.{number}

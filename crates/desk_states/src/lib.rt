@@ -49,10 +49,8 @@ pub fn note_numbers(t: &[u32]) -> [u32; 256]
 {
     let n = layout::vertex_count(t);
     let mut numbers = [0; 256];
-    let mut i = 0;
-    while i < n {
+    for i in 0..n {
         numbers[i] = layout::vertex_number(t, i);
-        i += 1;
     }
     numbers
 }
@@ -80,10 +78,8 @@ pub fn follow(t: &[u32], numbers: &[u32; 256], n: usize, s: &mut [u32])
     ensures { s.new ≡ states_by (state_in (take n numbers.now) s.old) (vertex_column t.now) }
 {
     let mut k = 0;
-    let mut i = 0;
-    while i < n {
+    for i in 0..n {
         k = move_state(t, numbers, s, i, k);
-        i += 1;
     }
     clear_words(s, k, layout::VERTEX_LIMIT - k);
 }
@@ -92,8 +88,7 @@ pub fn follow(t: &[u32], numbers: &[u32; 256], n: usize, s: &mut [u32])
 pub fn is_done(a: Answer) -> bool
     ensures { result ≡ eqb (number a) 0 }
 {
-    let r = layout::reply_of(a);
-    r.number == 0
+    a.is_ok()
 }
 
 // Where the answer is that of a call that is done, the states follow.

@@ -7,7 +7,7 @@ ghost use Rattle.withdraw_tray.specs.Carried.{carried_out};
 ghost use Rattle.desk.specs.Desk.{desk_of, outcome, edited, desk_edit};
 ghost use Rattle.desk_tray.specs.Judged.{Judged};
 
-use layout::Answer;
+use layout::{Answer, Refusal};
 use tray_marks::Tray;
 use trays::Withdrawal;
 
@@ -17,7 +17,7 @@ pub fn carry_out_at_desk(t: &mut [u32], s: &mut [u32], tray: Tray) -> Answer
     ensures { outcome result (desk_of t.new s.new) ≡ edited (carried_out tray t.old) (desk_of t.old s.old) }
 {
     if !desk_states::is_open(t, s) {
-        return Answer::NotWellFormed;
+        return Err(Refusal::NotWellFormed);
     }
     let n = layout::vertex_count(t);
     let numbers = desk_states::note_numbers(t);

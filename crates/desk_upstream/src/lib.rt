@@ -19,13 +19,11 @@ fn mark_before(t: &[u32], list: &[u32], v: u32, marks: &mut [bool; 256])
     requires marks_len { length marks.old ≡ vertex_limit }
     ensures { MarkedBy (live_vertices (read limit t.now)) (some_of (oriented To is_step v) (steps_of list.now)) marks.old marks.new }
 {
-    let mut i = 0;
-    while i + 1 < list.len() {
+    for i in 0..list.len().saturating_sub(1) {
         let ends = ends_at(list, i, Direction::To);
         if ends.near == v {
             marks::mark(t, ends.far, marks);
         }
-        i += 1;
     }
 }
 
@@ -46,10 +44,8 @@ pub fn upstream_marks(t: &[u32], v: u32) -> [bool; 256]
 {
     let m = layout::hyperedge_count(t);
     let mut marks = [false; 256];
-    let mut j = 0;
-    while j < m {
+    for j in 0..m {
         mark_record(t, j, v, &mut marks);
-        j += 1;
     }
     marks
 }

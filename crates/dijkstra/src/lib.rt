@@ -28,6 +28,7 @@ pub fn dijkstra(
     let mut b = [9223372036854775808u64; 16];
     label(n, s, 0, m, d, &mut b);
     let mut u = pick(n, m, d, &b);
+    // Counts no index: each next number is the nearest open one, until there is none.
     while u < n {
         settle(n, u, m, d, &mut b);
         relax(c, w, lists, counts, n, u, m, d, &mut b);
@@ -63,14 +64,12 @@ fn hop_from(
     requires { (n ≤ 256) × (x < n) × ((v : ℕ) → v < n → get_or m.now v 0 ≡ 2 → get_or d.now v 0 ≤ 72057594037927936) }
     ensures { result ≡ hop (step_back c.now) (key_back c.now w.now) n m.now d.now x }
 {
-    let mut v = 0;
-    while v < n {
+    for v in 0..n {
         if tight(c, w, m, d, x, v) {
             return v;
         }
-        v += 1;
     }
-    v
+    n
 }
 
 // The walk from x down the keys, in the first places of `out`.
@@ -86,9 +85,8 @@ fn descend(
     requires { (n ≤ 256) × (x < n) × (length out.old ≡ 256) × ((v : ℕ) → v < n → get_or m.now v 0 ≡ 2 → get_or d.now v 0 ≤ 72057594037927936) }
     ensures { Descended (step_back c.now) (key_back c.now w.now) n m.now d.now x result out.new }
 {
-    let mut at = 0;
     let mut u = x;
-    while at < n {
+    for at in 0..n {
         if d[u] == 0 {
             return at;
         }
@@ -98,9 +96,8 @@ fn descend(
         }
         out[at] = next as u32;
         u = next;
-        at += 1;
     }
-    at
+    n
 }
 
 // The best walk from x to y, in the first places of `out`: the matrix holds the steps against their direction.

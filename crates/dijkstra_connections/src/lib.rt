@@ -14,31 +14,25 @@ ghost use Rattle.paths.specs.Choices.{Chosen};
 ghost use Rattle.paths.specs.Written.{Laid, no_path, path_head, step_words, pair_between};
 
 use choices::{choices, weights};
-use layout::{Answer, Found, VertexIndex};
+use layout::{Answer, Refusal, VertexIndex};
 use paths::put_two;
 
 // `from` is record i.
 fn pair_from(t: &[u32], i: usize, from: VertexIndex, to: VertexIndex, out: &mut [u32]) -> Answer
     requires formed { Formed limit t.now }
-    requires t_value { position from.0 (live_vertices (read limit t.now)) ≡ Found.At i }
+    requires t_value { position from.0 (live_vertices (read limit t.now)) ≡ Some i }
     ensures { result_of result out.new ≡ pair_result from.0 to.0 out.old (read limit t.now) }
 {
-    let f = find::find_vertex(t, to);
-    match f {
-        Found::Nothing => Answer::VertexNotLive(to),
-        Found::At(j) => list_pair(t, i, j, out),
-    }
+    let j = find::find_vertex(t, to).ok_or(Refusal::VertexNotLive(to))?;
+    list_pair(t, i, j, out)
 }
 
 fn pair_formed(t: &[u32], from: VertexIndex, to: VertexIndex, out: &mut [u32]) -> Answer
     requires { Formed limit t.now }
     ensures { result_of result out.new ≡ pair_result from.0 to.0 out.old (read limit t.now) }
 {
-    let f = find::find_vertex(t, from);
-    match f {
-        Found::Nothing => Answer::VertexNotLive(from),
-        Found::At(i) => pair_from(t, i, from, to, out),
-    }
+    let i = find::find_vertex(t, from).ok_or(Refusal::VertexNotLive(from))?;
+    pair_from(t, i, from, to, out)
 }
 
 // Lists the best walk from `from` to `to`: its cost as low word and high word, the count of entries, and the entries of vertex and hyperedge.
@@ -51,7 +45,7 @@ pub fn get_dijkstra_connections_with_cost(
     ensures { result_of result out.new ≡ on_formed t.now out.old (pair_result from.0 to.0 out.old) }
 {
     if !well_formed::well_formed(t) {
-        return Answer::NotWellFormed;
+        return Err(Refusal::NotWellFormed);
     }
     pair_formed(t, from, to, out)
 }
@@ -100,12 +94,10 @@ fn put_steps(t: &[u32], c: &[u8; 65536], i: usize, walk: &[u32; 256], steps: usi
     ensures { out.new ≡ over_at 5 (step_words (read limit t.now) i (take steps walk.now)) out.old }
 {
     let mut a = i;
-    let mut k = 0;
-    while k < steps {
+    for k in 0..steps {
         let b = walk[k] as usize;
         put_step(t, c, a, b, 5 + k * 2, out);
         a = b;
-        k += 1;
     }
 }
 
@@ -114,12 +106,12 @@ fn list_none(out: &mut [u32]) -> Answer
     ensures { result_of result out.new ≡ listed no_path out.old }
 {
     if out.len() < 3 {
-        return Answer::NoRoom(3);
+        return Err(Refusal::NoRoom(3));
     }
     out[0] = 0;
     out[1] = 0;
     out[2] = 0;
-    Answer::Done(3)
+    Ok(3)
 }
 
 // The walk of `steps` steps from record i.
@@ -138,11 +130,11 @@ fn list_walk(
 {
     let needed = 5 + steps * 2;
     if out.len() < needed {
-        return Answer::NoRoom(needed);
+        return Err(Refusal::NoRoom(needed));
     }
     put_head(cost, steps + 1, layout::vertex_number(t, i), out);
     put_steps(t, c, i, walk, steps, out);
-    Answer::Done(needed)
+    Ok(needed)
 }
 
 // The best walk from record i to record j.

@@ -13,7 +13,7 @@ ghost use Rattle.paths.specs.Paths.{low, high, costs_from, from_result};
 ghost use Rattle.paths.specs.Written.{is_reached, key_words, keys_below, WroteAt};
 
 use choices::{choices, weights};
-use layout::{Answer, Found, VertexIndex};
+use layout::{Answer, Refusal, VertexIndex};
 use paths::put_three;
 
 // 1 for the mark of a record that is reached, else 0.
@@ -32,10 +32,8 @@ fn count_reached(n: usize, m: &[u8; 256]) -> usize
     ensures { (result ≡ count (is_reached m.now) n) × (result ≤ n) }
 {
     let mut k: usize = 0;
-    let mut v = 0;
-    while v < n {
+    for v in 0..n {
         k += one_reached(m[v]);
-        v += 1;
     }
     k
 }
@@ -83,10 +81,8 @@ fn put_costs(t: &[u32], n: usize, m: &[u8; 256], d: &[u64; 256], out: &mut [u32]
     ensures { out.new ≡ over (keys_below (read limit t.now) m.now d.now n) out.old }
 {
     let mut at = 0;
-    let mut v = 0;
-    while v < n {
+    for v in 0..n {
         at = put_record(t, m, d, v, at, out);
-        v += 1;
     }
 }
 
@@ -108,21 +104,18 @@ fn list_costs(t: &[u32], i: usize, out: &mut [u32]) -> Answer
     dijkstra::dijkstra(&c, &w, &lists, &counts, n, i, &mut m, &mut d);
     let needed = count_reached(n, &m) * 3;
     if out.len() < needed {
-        return Answer::NoRoom(needed);
+        return Err(Refusal::NoRoom(needed));
     }
     put_costs(t, n, &m, &d, out);
-    Answer::Done(needed)
+    Ok(needed)
 }
 
 fn from_formed(t: &[u32], from: VertexIndex, out: &mut [u32]) -> Answer
     requires { Formed limit t.now }
     ensures { result_of result out.new ≡ from_result from.0 out.old (read limit t.now) }
 {
-    let f = find::find_vertex(t, from);
-    match f {
-        Found::Nothing => Answer::VertexNotLive(from),
-        Found::At(i) => list_costs(t, i, out),
-    }
+    let i = find::find_vertex(t, from).ok_or(Refusal::VertexNotLive(from))?;
+    list_costs(t, i, out)
 }
 
 // Lists each vertex that is reached from `from` with its cost, ascending: vertex, low word, high word.
@@ -130,7 +123,7 @@ pub fn get_dijkstra_from(t: &[u32], from: VertexIndex, out: &mut [u32]) -> Answe
     ensures { result_of result out.new ≡ on_formed t.now out.old (from_result from.0 out.old) }
 {
     if !well_formed::well_formed(t) {
-        return Answer::NotWellFormed;
+        return Err(Refusal::NotWellFormed);
     }
     from_formed(t, from, out)
 }

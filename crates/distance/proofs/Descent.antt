@@ -51,11 +51,12 @@ module _ (E : ℕ → ℕ → Bool) (K : ℕ → ℕ → ℕ) (n : ℕ) (m d : L
     pub down-lost : (w : ℕ) → w ≡ hop E K n m d u → n ≤ w → Descended E K n m d x at o
     down-lost w e l = over (path-lost E K n m d (n - at) u (omega (arith, e)))
 
-    pub down-short : n ≤ at → Descended E K n m d x at o
+    pub down-short : n ≤ at → Descended E K n m d x n o
     unfolding path
     down-short l =
         let q : n - at ≡ 0 = omega (arith, h.within) in
-        over (ap (λ (f : ℕ). path E K n m d f u) q)
+        let s : at ≡ n = omega (arith, h.within) in
+        subst (λ (k : ℕ). Descended E K n m d x k o) s (over (ap (λ (f : ℕ). path E K n m d f u) q))
 
     pub down-more : (w : ℕ) → n ≤ 256 → at < n → (get_or d u 0 ≡ 0 → ⊥) → w ≡ hop E K n m d u → w < n → Down E K n m d x (at + 1) w (set o at w)
     down-more w b l z e lw =

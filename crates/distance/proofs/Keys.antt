@@ -120,8 +120,8 @@ module _ (m d : List ℕ) (key n v whole : ℕ) (h : least (has_key m d key) (n 
   pub first_step : (b : Bool) → b ≡ has_key m d key v → v < n → b ≡ false → least (has_key m d key) (n - (v + 1)) (v + 1) ≡ whole
   first_step b e l t = sym (least_step (has_key m d key) n v l (sym e ∙ t)) ∙ h
 
-  pub first-end : n ≤ v → v ≡ whole
-  first-end l = sym (least-end (has_key m d key) n v l) ∙ h
+  pub first-end : v ≤ n → n ≤ v → n ≡ whole
+  first-end l e = let s : n ≡ v = omega arith in s ∙ sym (least-end (has_key m d key) n v e) ∙ h
 
 -- at and key are what `lowest` found, r what `first_of` found
 module _ (n : ℕ) (m d b : List ℕ) (small : n ≤ 256) (h : Blocks n m d b) (at key : ℕ) (q : Lowest b 16 at key) where

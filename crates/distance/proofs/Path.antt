@@ -15,7 +15,6 @@ use Rattle.distance.specs.Way.{Way, here, step}
 use Rattle.graph.specs.Reach.{Edge}
 use Rattle.lists.proofs.Cases.{on, on_same, and-true-left, and-true-right}
 use Rattle.order.proofs.Least.{least-hit, least-le}
-use Rattle.order.specs.Least.{least}
 use Rattle.order.specs.Sort.{LexLe}
 use Rattle.distance.specs.Best.{Walk, total, Best}
 use Rattle.distance.specs.Path.{key, is_tight, hop, path}

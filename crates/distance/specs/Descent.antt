@@ -1,5 +1,5 @@
 -- What the code holds on its way down the keys, and what it gives for a pair. Assumes nothing.
-use Rattle.std.specs.Prelude.{◌≡◌, Bool, true, false, List, ◌++◌, ℕ, ◌+◌, ◌-◌, ◌≤◌, ◌<◌, length, take}
+use Rattle.std.specs.Prelude.{◌≡◌, Bool, true, false, List, ◌++◌, ℕ, ◌-◌, ◌≤◌, ◌<◌, length, take}
 use Rattle.graph.specs.Reach.{Edge}
 use Rattle.distance.specs.Best.{Walk, total, Best}
 use Rattle.distance.specs.Path.{path}

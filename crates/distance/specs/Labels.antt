@@ -1,5 +1,5 @@
 -- Labels: a number is 0 unlabelled, 1 labelled, 2 settled; its key is the total of a walk. Assumes nothing.
-use Rattle.std.specs.Prelude.{◌≡◌, Bool, true, ◌&&◌, ◌||◌, not, cond, List, ℕ, zero, ◌+◌, ◌≤◌, ◌<◌, eqb, ltb, length, get_or}
+use Rattle.std.specs.Prelude.{◌≡◌, Bool, true, ◌&&◌, ◌||◌, not, cond, List, ℕ, ◌+◌, ◌≤◌, ◌<◌, eqb, ltb, length, get_or}
 use Rattle.distance.specs.Way.{Way}
 use Rattle.graph.specs.Reach.{Edge}
 use Rattle.lists.specs.Tests.{count}

@@ -60,11 +60,9 @@ pub fn block_key(n: usize, m: &[u8; 256], d: &[u64; 256], j: usize) -> u64
 {
     let end = block_end(n, j);
     let mut key = 9223372036854775808;
-    let mut v = j * 16;
-    while v < end {
+    for v in j * 16..end {
         let next = lesser(key, open_key(m[v], d[v]));
         key = next;
-        v += 1;
     }
     key
 }
@@ -84,11 +82,9 @@ fn lowest(b: &[u64; 16]) -> Near
     ensures { Lowest b.now 16 result.at result.key }
 {
     let mut p = Near { at: 0, key: b[0] };
-    let mut j = 1;
-    while j < 16 {
+    for j in 1..16 {
         let next = nearer(p, j, b[j]);
         p = next;
-        j += 1;
     }
     p
 }
@@ -109,14 +105,12 @@ fn first_of(n: usize, m: &[u8; 256], d: &[u64; 256], key: u64, from: usize) -> u
     requires { (n ≤ 256) × (from ≤ n) }
     ensures { result ≡ least (has_key m.now d.now key) (n - from) from }
 {
-    let mut v = from;
-    while v < n {
+    for v in from..n {
         if has_key(m, d, key, v) {
             return v;
         }
-        v += 1;
     }
-    v
+    n
 }
 
 // The labelled number of least key, or n.

@@ -1,4 +1,5 @@
 -- The stores of `put_hyperedge` give the words of the table with one hyperedge more. Assumes nothing.
+use Rattle.std.specs.Prelude.{Ok, Err}
 use mathlib.Core.Path.{◌≡◌, refl, sym, ap, ap₂, ◌∙◌}
 use mathlib.Core.Bool.{cond}
 use mathlib.Core.List.{List, [], ◌∷◌, ◌++◌}
@@ -12,14 +13,13 @@ use Rattle.lists.specs.Lists.{tab}
 use Rattle.lists.specs.Inner.{over_at}
 use Rattle.lists.proofs.Cases.{on_below}
 use Rattle.lists.proofs.Tab.{tab-ext, tab-suc, length-tab}
-use Rattle.layout.specs.declared.Answer.{Answer}
-use Rattle.layout.specs.declared.Answer.TheVariants.{Done, Full, NumbersSpent}
+use Rattle.layout.specs.declared.Refusal.{Refusal}
+use Rattle.layout.specs.declared.Refusal.TheVariants.{Full, NumbersSpent}
 use Rattle.layout.specs.Content.{Hyperedge, hyperedge_of}
 use Rattle.layout.specs.Layout.{hyperedge_limit, size, hyperedge_word, next_hyperedge_in, hyperedge_count, hyperedge_at, read_hyperedges, read, words, limit}
 use Rattle.layout.specs.Inner.{Formed}
 use Rattle.layout.specs.Answers.{Result, result_of}
-use Rattle.edits.specs.declared.Judgement.{Judgement}
-use Rattle.edits.specs.declared.Judgement.TheVariants.{Refused, Fine}
+use Rattle.edits.specs.Stages.{Judgement}
 use Rattle.edits.specs.Edits.{add_hyperedge}
 use Rattle.edits.specs.Records.{member_words, put_hyperedge}
 use Rattle.edits.specs.Results.{last_number, add_hyperedge_result}
@@ -75,28 +75,28 @@ module _ (ms : List ℕ) (w : ℕ) (ws : List ℕ) (m : ℕ) (em : m ≡ hypered
   live : length (read limit ws).hyperedges ≡ m
   live = length-tab (hyperedge_at limit ws) (hyperedge_count ws) ∙ sym em
 
-  pub add-hyperedge-full : hyperedge_limit ≤ m → result_of Full ws ≡ add_new_result ms w ws (read limit ws)
+  pub add-hyperedge-full : hyperedge_limit ≤ m → result_of (Err Full) ws ≡ add_new_result ms w ws (read limit ws)
   unfolding add_new_result
   add-hyperedge-full h = on-full _ hyperedge_limit ws _ (rw live h)
 
   module _ (x : ℕ) (ex : x ≡ next_hyperedge_in ws) (h : m < hyperedge_limit) where
-    pub add-hyperedge-spent : x ≡ last_number → result_of NumbersSpent ws ≡ add_new_result ms w ws (read limit ws)
+    pub add-hyperedge-spent : x ≡ last_number → result_of (Err NumbersSpent) ws ≡ add_new_result ms w ws (read limit ws)
     unfolding add_new_result
     add-hyperedge-spent q = on-spent (next_hyperedge_in ws) ws _ (sym ex ∙ q) ∙ on_room_lem _ hyperedge_limit ws _ (rw live h)
 
     pub add-hyperedge-done : (exit : List ℕ) → Formed limit ws → 0 < length ms → length ms ≤ limit → (x ≡ last_number → ⊥)
-        → exit ≡ put_hyperedge limit m (hyperedge_of x w ms) (x + 1) (m + 1) ws → result_of (Done x) exit ≡ add_new_result ms w ws (read limit ws)
+        → exit ≡ put_hyperedge limit m (hyperedge_of x w ms) (x + 1) (m + 1) ws → result_of (Ok x) exit ≡ add_new_result ms w ws (read limit ws)
     unfolding add_new_result
     add-hyperedge-done exit f pos le q e =
-        ap₂ (λ (y : ℕ) (l : List ℕ). result_of (Done y) l) ex (e ∙ put-hyperedge-words limit ws m x w ms f pos le em ex h)
+        ap₂ (λ (y : ℕ) (l : List ℕ). result_of (Ok y) l) ex (e ∙ put-hyperedge-words limit ws m x w ms f pos le em ex h)
         ∙ on-number (next_hyperedge_in ws) ws _ (λ p. q (ex ∙ p)) ∙ on_room_lem _ hyperedge_limit ws _ (rw live h)
 
 -- j is what `judge_members` said
 module _ (ms : List ℕ) (w : ℕ) (ws : List ℕ) (j : Judgement) (by : JudgedBy j ms w (read limit ws)) where
-  pub add-hyperedge-refused : (a : Answer) → j ≡ Refused a → result_of a ws ≡ add_hyperedge_result ms w ws (read limit ws)
+  pub add-hyperedge-refused : (a : Refusal) → j ≡ Err a → result_of (Err a) ws ≡ add_hyperedge_result ms w ws (read limit ws)
   unfolding add_hyperedge_result
   add-hyperedge-refused a h = on-refused j ms w (read limit ws) by a ws _ h
 
-  pub add-hyperedge-fine : (y : Result) → j ≡ Fine → y ≡ add_judged_result ms w ws (read limit ws) → y ≡ add_hyperedge_result ms w ws (read limit ws)
+  pub add-hyperedge-fine : (y : Result) → j ≡ Ok tt → y ≡ add_judged_result ms w ws (read limit ws) → y ≡ add_hyperedge_result ms w ws (read limit ws)
   unfolding add_hyperedge_result add_judged_result add_new_result
   add-hyperedge-fine y h q = on_fine j ms w (read limit ws) by ws _ y h q

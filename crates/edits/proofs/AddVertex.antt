@@ -1,4 +1,5 @@
 -- The stores of `put_vertex` give the words of the table with one vertex more. Assumes nothing.
+use Rattle.std.specs.Prelude.{Ok, Err}
 use mathlib.Core.Path.{◌≡◌, sym, ap, ap₂, ◌∙◌}
 use mathlib.Core.Bool.{true}
 use mathlib.Core.List.{List, [], ◌∷◌, ◌++◌}
@@ -11,7 +12,7 @@ use Rattle.lists.specs.Lists.{tab}
 use Rattle.lists.proofs.Tab.{tab-ext, tab-suc, length-tab}
 use Rattle.lists.proofs.Every.{every_of}
 use Rattle.lists.proofs.Flat.{zeros-part-of}
-use Rattle.layout.specs.declared.Answer.TheVariants.{Done, Full, NumbersSpent}
+use Rattle.layout.specs.declared.Refusal.TheVariants.{Full, NumbersSpent}
 use Rattle.layout.specs.Content.{Vertex}
 use Rattle.layout.specs.Layout.{limit, vertex_limit, record_size, hyperedges_at, size, vertex_word, hyperedge_word, next_vertex_in, vertex_count, hyperedge_count, vertex_at, hyperedge_at, read_vertices, read_hyperedges, read, words}
 use Rattle.layout.specs.WellFormed.{record_shaped, unused_vertices, unused_hyperedges}
@@ -130,18 +131,18 @@ module _ (w : ℕ) (ws : List ℕ) (n : ℕ) (en : n ≡ vertex_count ws) where
   live : length (read limit ws).vertices ≡ n
   live = length-tab (vertex_at ws) (vertex_count ws) ∙ sym en
 
-  pub add-vertex-full : vertex_limit ≤ n → result_of Full ws ≡ add_vertex_result w ws (read limit ws)
+  pub add-vertex-full : vertex_limit ≤ n → result_of (Err Full) ws ≡ add_vertex_result w ws (read limit ws)
   unfolding add_vertex_result
   add-vertex-full h = on-full _ vertex_limit ws _ (rw live h)
 
   module _ (x : ℕ) (ex : x ≡ next_vertex_in ws) (h : n < vertex_limit) where
-    pub add-vertex-spent : x ≡ last_number → result_of NumbersSpent ws ≡ add_vertex_result w ws (read limit ws)
+    pub add-vertex-spent : x ≡ last_number → result_of (Err NumbersSpent) ws ≡ add_vertex_result w ws (read limit ws)
     unfolding add_vertex_result
     add-vertex-spent q = on-spent (next_vertex_in ws) ws _ (sym ex ∙ q) ∙ on_room_lem _ vertex_limit ws _ (rw live h)
 
     pub add-vertex-done : (exit : List ℕ) → Formed limit ws → (x ≡ last_number → ⊥) → exit ≡ put_vertex n x w ws
-        → result_of (Done x) exit ≡ add_vertex_result w ws (read limit ws)
+        → result_of (Ok x) exit ≡ add_vertex_result w ws (read limit ws)
     unfolding add_vertex_result
     add-vertex-done exit f q e =
-        ap₂ (λ (y : ℕ) (l : List ℕ). result_of (Done y) l) ex (e ∙ put-vertex-words limit ws n x w f en ex h)
+        ap₂ (λ (y : ℕ) (l : List ℕ). result_of (Ok y) l) ex (e ∙ put-vertex-words limit ws n x w f en ex h)
         ∙ on-number (next_vertex_in ws) ws _ (λ p. q (ex ∙ p)) ∙ on_room_lem _ vertex_limit ws _ (rw live h)

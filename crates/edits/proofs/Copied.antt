@@ -1,10 +1,10 @@
--- The loops that move words down and clear words. Assumes nothing.
+-- Words copied to a place one by one; words moved down and then cleared. Assumes nothing.
 use mathlib.Core.Path.{◌≡◌, refl, sym, ap, ap₂, ◌∙◌}
 use mathlib.Core.List.{List, ◌++◌, append_assoc, append-nil}
 use Prim.Native.Nat.{ℕ, ◌+◌, ◌-◌, ◌≤◌, ◌<◌}
 use native.Mathlib.Numerals.{add-one}
 use native.Mathlib.Omega.{arith}
-use lib.ListN.{length, get_or, set, take, drop, replicate, length-set, length-drop, length-replicate, get_or-replicate, drop_of_length-le}
+use lib.ListN.{length, get_or, set, take, drop, replicate, length-set, length-drop, length-replicate, drop_of_length-le}
 use lib.Seq.{paste, paste-zero, paste-suc, drop-paste, take-paste, get_or-drop, take_all}
 use Rattle.lists.specs.Inner.{shifted}
 
@@ -28,20 +28,7 @@ pub copied-read : {d : List ℕ} {a : ℕ} {src : List ℕ} {j : ℕ} {s : List 
 copied-read {d} {a} {src} {j} {s} c h l k =
     sym (get_or-drop (a + j) s k 0) ∙ ap (λ (r : List ℕ). get_or r k 0) (ap (drop (a + j)) c.is ∙ drop-paste d a src j h l) ∙ get_or-drop (a + j) d k 0
 
--- the turn of the loop that moves: it reads where nothing was stored yet
-pub moved_more : {d : List ℕ} {a j : ℕ} {s : List ℕ} (k : ℕ) → Copied d a (drop (a + k) d) j s → a + k + j < length d → Copied d a (drop (a + k) d) (j + 1) (set s (a + j) (get_or s (a + k + j) 0))
-moved_more {d} {a} {j} {s} k c h =
-    let l : length (drop (a + k) d) ≡ length d - (a + k) = length-drop (a + k) d in
-    let e : a + j + k ≡ a + k + j = omega arith in
-    copied_more _ c (omega arith) (omega arith)
-    (ap (λ (p : ℕ). get_or s p 0) (sym e) ∙ copied-read c (omega arith) (omega arith) k ∙ ap (λ (p : ℕ). get_or d p 0) e ∙ sym (get_or-drop (a + k) d j 0))
-
--- the turn of the loop that clears
-pub cleared_more : {d : List ℕ} {a j : ℕ} {s : List ℕ} (k : ℕ) → Copied d a (replicate k 0) j s → a + j < length d → j < k → Copied d a (replicate k 0) (j + 1) (set s (a + j) 0)
-cleared_more {d} {a} {j} {s} k c h l =
-    copied_more 0 c h (rw length-replicate l) (sym (get_or-replicate k j 0 0 l))
-
--- either loop's end
+-- the loop's end
 pub copied_all : {d : List ℕ} {a : ℕ} {src : List ℕ} {j : ℕ} {s : List ℕ} (n : ℕ) → Copied d a src j s → j ≡ n → s ≡ paste d a src n
 copied_all {d} {a} {src} n c e = c.is ∙ ap (paste d a src) e
 

@@ -1,19 +1,19 @@
 -- The same list, and an identical hyperedge. Assumes nothing.
+use Rattle.std.specs.Prelude.{Option, Some, None, Ok}
 use mathlib.Core.Path.{◌≡◌, refl, sym, ap, ◌∙◌}
 use mathlib.Core.Bool.{Bool, true, false}
 use mathlib.Core.List.{List, [], ◌∷◌}
 use Prim.Native.Nat.{ℕ, suc, ◌+◌, ◌≤◌, ◌<◌}
 use native.Mathlib.Numerals.{add-one}
 use native.Mathlib.Omega.{arith}
+use lib.Dec.{eqb}
+use lib.Pointwise.{pointwise}
 use lib.ListN.{length, get_or, drop, drop_of_length-le}
 use lib.Seq.{drop-cons}
 use borrow.Author.Tests.{eq-eqb, ne_eqb}
 use Rattle.lists.specs.Tests.{◌and◌}
 use Rattle.lists.specs.Lists.{same_list}
 use Rattle.lists.proofs.Cases.{on, and_right, and-true, and-false-right}
-use Rattle.layout.specs.declared.Found.{Found}
-use Rattle.layout.specs.declared.Found.TheVariants.{At, Nothing}
-use Rattle.layout.specs.declared.Answer.TheVariants.{Done}
 use Rattle.layout.specs.Layout.{limit, hyperedge_limit, hyperedge_word, members_at, hyperedge_at, read_hyperedges, read}
 use Rattle.layout.specs.Inner.{Formed}
 use Rattle.layout.specs.Answers.{Result, result_of}
@@ -46,6 +46,14 @@ module _ (a b : List ℕ) (i : ℕ) (whole : Bool) (inv : same_list (drop i a) (
   unfolding same_list
   same_end h = rw (drop_of_length-le a {i = i} h, drop_of_length-le b {i = i} (omega arith)) at inv
 
+-- what `==` answers
+pub same-pointwise : (a b : List ℕ) → pointwise eqb a b ≡ same_list a b
+unfolding same_list ◌and◌
+same-pointwise [] [] = refl
+same-pointwise [] (y ∷ ys) = refl
+same-pointwise (x ∷ xs) [] = refl
+same-pointwise (x ∷ xs) (y ∷ ys) = rw (same-pointwise xs ys) refl
+
 -- ---- an identical record: x is its weight, ks its members
 
 module _ (ms : List ℕ) (w : ℕ) (ws : List ℕ) (j x : ℕ) (e : x ≡ get_or ws (hyperedge_word limit j + 1) 0) where
@@ -60,14 +68,14 @@ module _ (ms : List ℕ) (w : ℕ) (ws : List ℕ) (j x : ℕ) (e : x ≡ get_or
 
 -- ---- what is answered: p is what `find_identical` found
 
-module _ (ms : List ℕ) (w : ℕ) (ws : List ℕ) (p : Found) (e : p ≡ first_passing (identical ms w) (read_hyperedges limit ws)) where
-  pub identical-within : (j : ℕ) → p ≡ At j → Formed limit ws → j < hyperedge_limit
+module _ (ms : List ℕ) (w : ℕ) (ws : List ℕ) (p : Option ℕ) (e : p ≡ first_passing (identical ms w) (read_hyperedges limit ws)) where
+  pub identical-within : (j : ℕ) → p ≡ Some j → Formed limit ws → j < hyperedge_limit
   identical-within j h f = passing-within (identical ms w) ws p e j h f
 
-  pub on-identical : (j : ℕ) → p ≡ At j → (x : ℕ) → x ≡ get_or ws (hyperedge_word limit j) 0 → result_of (Done x) ws ≡ add_judged_result ms w ws (read limit ws)
+  pub on-identical : (j : ℕ) → p ≡ Some j → (x : ℕ) → x ≡ get_or ws (hyperedge_word limit j) 0 → result_of (Ok x) ws ≡ add_judged_result ms w ws (read limit ws)
   unfolding add_judged_result
-  on-identical j h x q = on-passing (identical ms w) ws p e j h Done ws _ x q
+  on-identical j h x q = on-passing (identical ms w) ws p e j h Ok ws _ x q
 
-  pub on-new : (y : Result) → p ≡ Nothing → y ≡ add_new_result ms w ws (read limit ws) → y ≡ add_judged_result ms w ws (read limit ws)
+  pub on-new : (y : Result) → p ≡ None → y ≡ add_new_result ms w ws (read limit ws) → y ≡ add_judged_result ms w ws (read limit ws)
   unfolding add_judged_result
-  on-new y h q = q ∙ on-none-passing (identical ms w) ws p e Done ws _ h
+  on-new y h q = q ∙ on-none-passing (identical ms w) ws p e Ok ws _ h

@@ -1,4 +1,5 @@
 -- The ways that an addition, an update or a merge of a well-formed table can go: refused, with the words as they were, or done. Assumes nothing.
+use Rattle.std.specs.Prelude.{Ok, Err}
 use mathlib.Core.Path.{◌≡◌, refl}
 use mathlib.Core.Bool.{Bool, true, false}
 use mathlib.Core.List.{List, [], ◌∷◌}
@@ -8,8 +9,8 @@ use lib.ListN.{length}
 use borrow.Author.Tests.{ltb-true, leb-true, eqb-false}
 use Rattle.lists.specs.Lists.{all, any, same_list}
 use Rattle.lists.proofs.Cases.{on, and_left, and_right, and_both, or_right}
-use Rattle.layout.specs.declared.Answer.{Answer}
-use Rattle.layout.specs.declared.Answer.TheVariants.{Done, NoMembers, SameMembers, TooManyMembers, Full, NumbersSpent, SameVertex}
+use Rattle.layout.specs.Answers.{Answer}
+use Rattle.layout.specs.declared.Refusal.TheVariants.{NoMembers, SameMembers, TooManyMembers, Full, NumbersSpent, SameVertex}
 use Rattle.layout.specs.Content.{Table, is_live}
 use Rattle.layout.specs.Layout.{limit, vertex_limit, hyperedge_limit, read, words}
 use Rattle.layout.specs.WellFormed.{well_formed, holdable}
@@ -25,11 +26,11 @@ use Rattle.edits.proofs.Merged.{Mergeable}
 module _ (P : Result → Type 0) (ws : List ℕ) (refused : (a : Answer) → eqb (number a) 0 ≡ false → P (result_of a ws)) (r : Result) where
   some_or : (ms : List ℕ) (d : ℕ) → (0 < length ms → P r) → P (on_some ms d ws r)
   unfolding on_some
-  some_or ms d f = on (ltb 0 (length ms)) (λ e. rw e (f (ltb-true _ _ e))) (λ e. rw e (refused (NoMembers d) refl))
+  some_or ms d f = on (ltb 0 (length ms)) (λ e. rw e (f (ltb-true _ _ e))) (λ e. rw e (refused (Err (NoMembers d)) refl))
 
   short-or : (ms : List ℕ) → (length ms ≤ limit → P r) → P (on_short ms ws r)
   unfolding on_short
-  short-or ms f = on (leb (length ms) limit) (λ e. rw e (f (leb-true _ _ e))) (λ e. rw e (refused (TooManyMembers (length ms)) refl))
+  short-or ms f = on (leb (length ms) limit) (λ e. rw e (f (leb-true _ _ e))) (λ e. rw e (refused (Err (TooManyMembers (length ms))) refl))
 
   live-or : (live : List ℕ) (refusal : ℕ → Answer) → ((x : ℕ) → eqb (number (refusal x)) 0 ≡ false) → (xs : List ℕ) → (all (is_live live) xs ≡ true → P r) → P (on_live live refusal xs ws r)
   unfolding on_live all
@@ -39,19 +40,19 @@ module _ (P : Result → Type 0) (ws : List ℕ) (refused : (a : Answer) → eqb
 
   changed-or : (x : ℕ) (ms : List ℕ) (t : Table) → P r → P (on_changed x ms t ws r)
   unfolding on_changed
-  changed-or x ms t p = on (same_list ms (members_of x t.hyperedges)) (λ q. rw q (refused (SameMembers (record { 0 = x })) refl)) (λ q. rw q p)
+  changed-or x ms t p = on (same_list ms (members_of x t.hyperedges)) (λ q. rw q (refused (Err (SameMembers (record { 0 = x }))) refl)) (λ q. rw q p)
 
   room-or : (live most : ℕ) → (live < most → P r) → P (on_room live most ws r)
   unfolding on_room
-  room-or live most f = on (ltb live most) (λ e. rw e (f (ltb-true _ _ e))) (λ e. rw e (refused Full refl))
+  room-or live most f = on (ltb live most) (λ e. rw e (f (ltb-true _ _ e))) (λ e. rw e (refused (Err Full) refl))
 
   number-or : (next : ℕ) → P r → P (on_number next ws r)
   unfolding on_number
-  number-or next p = on (eqb next last_number) (λ e. rw e (refused NumbersSpent refl)) (λ e. rw e p)
+  number-or next p = on (eqb next last_number) (λ e. rw e (refused (Err NumbersSpent) refl)) (λ e. rw e p)
 
   other-or : (v w : ℕ) → ((v ≡ w → ⊥) → P r) → P (on_other v w ws r)
   unfolding on_other
-  other-or v w f = on (eqb v w) (λ e. rw e (refused (SameVertex (record { 0 = v })) refl)) (λ e. rw e (f (eqb-false v w e)))
+  other-or v w f = on (eqb v w) (λ e. rw e (refused (Err (SameVertex (record { 0 = v }))) refl)) (λ e. rw e (f (eqb-false v w e)))
 
 -- the first that passes the test gives its answer, and the words are as they were
 first-or : {A : Type 0} (P : Result → Type 0) (ws : List ℕ) (r : Result) (p : A → Bool) (answer : A → Answer) (xs : List A)
@@ -80,7 +81,7 @@ module _ (P : Result → Type 0) (ws : List ℕ) (formed : well_formed limit ws 
   formed-or f p = rw formed p
 
   pub add-vertex-goes : (w : ℕ)
-      → (holdable limit (add_vertex w (read limit ws)) ≡ true → P (result_of (Done (read limit ws).next_vertex) (words limit (add_vertex w (read limit ws)))))
+      → (holdable limit (add_vertex w (read limit ws)) ≡ true → P (result_of (Ok (read limit ws).next_vertex) (words limit (add_vertex w (read limit ws)))))
       → P (on_formed ws ws (add_vertex_result w ws))
   unfolding add_vertex_result
   add-vertex-goes w done =
@@ -88,19 +89,19 @@ module _ (P : Result → Type 0) (ws : List ℕ) (formed : well_formed limit ws 
       (done (add-vertex-holdable limit w (read limit ws) held room))))
 
   pub add-hyperedge-goes : (ms : List ℕ) (w : ℕ)
-      → (equal_neighbours ms ≡ false → any (identical ms w) (read limit ws).hyperedges ≡ true → (x : ℕ) → P (result_of (Done x) ws))
+      → (equal_neighbours ms ≡ false → any (identical ms w) (read limit ws).hyperedges ≡ true → (x : ℕ) → P (result_of (Ok x) ws))
       → (equal_neighbours ms ≡ false → any (identical ms w) (read limit ws).hyperedges ≡ false → holdable limit (add_hyperedge ms w (read limit ws)) ≡ true
-      → P (result_of (Done (read limit ws).next_hyperedge) (words limit (add_hyperedge ms w (read limit ws)))))
+      → P (result_of (Ok (read limit ws).next_hyperedge) (words limit (add_hyperedge ms w (read limit ws)))))
       → P (on_formed ws ws (add_hyperedge_result ms w ws))
   unfolding add_hyperedge_result
   add-hyperedge-goes ms w found done =
       formed-or (add_hyperedge_result ms w ws) (some_or P ws refused _ ms w (λ pos. short-or P ws refused _ ms (λ le. live-or P ws refused _ _ _ (λ x. refl) ms (λ live.
-      unequal-or P ws refused _ ms (λ unequal. first-or P ws _ (identical ms w) (by_number Done) _ (λ h e. found unequal h e.number) (λ new.
+      unequal-or P ws refused _ ms (λ unequal. first-or P ws _ (identical ms w) (by_number Ok) _ (λ h e. found unequal h e.number) (λ new.
       room-or P ws refused _ _ hyperedge_limit (λ room. number-or P ws refused _ _
       (done unequal new (add-hyperedge-holdable limit ms (read limit ws) held pos le live w room)))))))))
 
   pub update-goes : (x : ℕ) (ms : List ℕ)
-      → (equal_neighbours ms ≡ false → holdable limit (update_hyperedge x ms (read limit ws)) ≡ true → P (result_of (Done 0) (words limit (update_hyperedge x ms (read limit ws)))))
+      → (equal_neighbours ms ≡ false → holdable limit (update_hyperedge x ms (read limit ws)) ≡ true → P (result_of (Ok 0) (words limit (update_hyperedge x ms (read limit ws)))))
       → P (on_formed ws ws (update_result x ms ws))
   unfolding update_result
   update-goes x ms done =
@@ -108,7 +109,7 @@ module _ (P : Result → Type 0) (ws : List ℕ) (formed : well_formed limit ws 
       unequal-or P ws refused _ ms (λ unequal. live-or P ws refused _ _ _ (λ e. refl) (x ∷ []) (λ found. changed-or P ws refused _ x ms _
       (done unequal (update-holdable limit ms (read limit ws) held pos le live x))))))))
 
-  pub merge-goes : (v w : ℕ) → (Mergeable v w (read limit ws) → P (result_of (Done 0) (words limit (merge_vertices v w (read limit ws))))) → P (on_formed ws ws (merge_result v w ws))
+  pub merge-goes : (v w : ℕ) → (Mergeable v w (read limit ws) → P (result_of (Ok 0) (words limit (merge_vertices v w (read limit ws))))) → P (on_formed ws ws (merge_result v w ws))
   unfolding merge_result all
   merge-goes v w done =
       formed-or (merge_result v w ws) (live-or P ws refused _ _ _ (λ x. refl) (v ∷ w ∷ []) (λ live. other-or P ws refused _ v w (λ two.

@@ -1,4 +1,5 @@
 -- The stores of `put_members` give the words of the table in which one hyperedge has a new list. Assumes nothing.
+use Rattle.std.specs.Prelude.{Option, Some, None, Ok, Err}
 use mathlib.Core.Path.{◌≡◌, sym, ap, ◌∙◌}
 use mathlib.Core.Bool.{Bool, true, false}
 use mathlib.Core.List.{List, [], ◌∷◌, map}
@@ -14,18 +15,15 @@ use Rattle.lists.proofs.Cases.{on_same}
 use Rattle.lists.proofs.Tab.{map-tab, length-tab, getD-tab}
 use Rattle.lists.proofs.Ascend.{ascending-apart}
 use Rattle.lists.proofs.Flat.{length-pad}
-use Rattle.layout.specs.declared.Found.{Found}
-use Rattle.layout.specs.declared.Found.TheVariants.{At, Nothing}
-use Rattle.layout.specs.declared.Answer.{Answer}
-use Rattle.layout.specs.declared.Answer.TheVariants.{Done, SameMembers}
+use Rattle.layout.specs.declared.Refusal.{Refusal}
+use Rattle.layout.specs.declared.Refusal.TheVariants.{SameMembers}
 use Rattle.layout.specs.Content.{Hyperedge, hyperedge_number, live_hyperedges, position, position_from, hyperedge_of, no_hyperedge}
 use Rattle.layout.specs.Layout.{hyperedge_limit, record_size, hyperedge_word, hyperedge_count, members_at, hyperedge_at, read_hyperedges, read, hyperedge_words, words, limit}
 use Rattle.layout.specs.Inner.{Formed, hyperedge_column}
 use Rattle.layout.specs.Answers.{Result, result_of, hyperedge_missing}
 use Rattle.layout.proofs.Read.{hyperedge-found}
 use Rattle.layout.proofs.Answers.{on-missing, on-found}
-use Rattle.edits.specs.declared.Judgement.{Judgement}
-use Rattle.edits.specs.declared.Judgement.TheVariants.{Refused, Fine}
+use Rattle.edits.specs.Stages.{Judgement}
 use Rattle.edits.specs.Edits.{with_members, update_hyperedge}
 use Rattle.edits.specs.Records.{member_words, put_hyperedge}
 use Rattle.edits.specs.Results.{members_of, on_changed, update_result}
@@ -78,17 +76,17 @@ module _ (L : ℕ) (ws : List ℕ) (j x : ℕ) (ms : List ℕ) (f : Formed L ws)
 
 -- ---- the members of the hyperedge that a search found
 
-from-members : (k x : ℕ) (es : List Hyperedge) (i : ℕ) → position_from k x (map hyperedge_number es) ≡ At i
+from-members : (k x : ℕ) (es : List Hyperedge) (i : ℕ) → position_from k x (map hyperedge_number es) ≡ Some i
     → (j : ℕ) × (i ≡ k + j) × (j < length es) × (members_of x es ≡ (get_or es j no_hyperedge).members)
 unfolding position_from members_of
 from-members k x [] i e = absurd (let z : ◌≡◌ {A = ℕ} 0 1 = cc in omega arith)
 from-members k x (v ∷ es) i e = on_same x v.number
-    (λ q. let f : At k ≡ At i = rw (eq-eqb x v.number q) at e in let g : k ≡ i = cc in (zero, omega arith, zero-lt-suc (length es), rw (eq-eqb v.number x (sym q))))
+    (λ q. let f : Some k ≡ Some i = rw (eq-eqb x v.number q) at e in let g : k ≡ i = cc in (zero, omega arith, zero-lt-suc (length es), rw (eq-eqb v.number x (sym q))))
     (λ q.
     let r = from-members (suc k) x es i (rw (ne_eqb x v.number q) at e) in
     (suc r.0, omega (arith, r.1), suc-le-suc r.2, rw (ne_eqb v.number x (λ w. q (sym w))) r.3))
 
-pub members-found : (L : ℕ) (ws : List ℕ) (x j : ℕ) → position x (live_hyperedges (read L ws)) ≡ At j → members_of x (read_hyperedges L ws) ≡ members_at L ws j
+pub members-found : (L : ℕ) (ws : List ℕ) (x j : ℕ) → position x (live_hyperedges (read L ws)) ≡ Some j → members_of x (read_hyperedges L ws) ≡ members_at L ws j
 unfolding position
 members-found L ws x j e =
     let r = from-members zero x (read_hyperedges L ws) j e in
@@ -98,7 +96,7 @@ members-found L ws x j e =
 
 -- ---- for `search`: the hyperedge of number x is at place j
 
-module _ (x : ℕ) (ms ws : List ℕ) (j : ℕ) (p : position x (live_hyperedges (read limit ws)) ≡ At j) where
+module _ (x : ℕ) (ms ws : List ℕ) (j : ℕ) (p : position x (live_hyperedges (read limit ws)) ≡ Some j) where
   pub update-within : j < hyperedge_count ws
   update-within = (hyperedge-found limit ws x j p).0
 
@@ -110,36 +108,36 @@ module _ (x : ℕ) (ms ws : List ℕ) (j : ℕ) (p : position x (live_hyperedges
     compared : same_list ms (members_of x (read_hyperedges limit ws)) ≡ r
     compared = ap (same_list ms) (members-found limit ws x j p ∙ sym eo) ∙ sym er
 
-    pub update_same : r ≡ true → result_of (SameMembers (record { 0 = x })) ws ≡ update_live_result x ms ws (read limit ws)
+    pub update_same : r ≡ true → result_of (Err (SameMembers (record { 0 = x }))) ws ≡ update_live_result x ms ws (read limit ws)
     unfolding update_live_result on_changed
     update_same h = rw (compared, h)
 
     pub update-done : (exit : List ℕ) → Formed limit ws → 0 < length ms → length ms ≤ limit → r ≡ false
-        → exit ≡ over_at (hyperedge_word limit j + 2) (member_words limit ms) ws → result_of (Done 0) exit ≡ update_live_result x ms ws (read limit ws)
+        → exit ≡ over_at (hyperedge_word limit j + 2) (member_words limit ms) ws → result_of (Ok 0) exit ≡ update_live_result x ms ws (read limit ws)
     unfolding update_live_result on_changed
     update-done exit f pos le h e =
         let g = hyperedge-found limit ws x j p in
-        rw (compared, h) (ap (result_of (Done 0)) (e ∙ put-members-words limit ws j x ms f pos le g.0 g.1))
+        rw (compared, h) (ap (result_of (Ok 0)) (e ∙ put-members-words limit ws j x ms f pos le g.0 g.1))
 
 -- p is what `find_hyperedge` found
-module _ (x : ℕ) (ms ws : List ℕ) (p : Found) (e : p ≡ position x (live_hyperedges (read limit ws))) where
-  pub update_found : (j : ℕ) → p ≡ At j → position x (live_hyperedges (read limit ws)) ≡ At j
+module _ (x : ℕ) (ms ws : List ℕ) (p : Option ℕ) (e : p ≡ position x (live_hyperedges (read limit ws))) where
+  pub update_found : (j : ℕ) → p ≡ Some j → position x (live_hyperedges (read limit ws)) ≡ Some j
   update_found j h = sym e ∙ h
 
-  pub update-missing : p ≡ Nothing → result_of (hyperedge_missing x) ws ≡ update_judged_result x ms ws (read limit ws)
+  pub update-missing : p ≡ None → result_of (hyperedge_missing x) ws ≡ update_judged_result x ms ws (read limit ws)
   unfolding update_judged_result
   update-missing h = on-missing (live_hyperedges (read limit ws)) hyperedge_missing x ws _ p e h
 
-  pub update-live : (j : ℕ) (y : Result) → p ≡ At j → y ≡ update_live_result x ms ws (read limit ws) → y ≡ update_judged_result x ms ws (read limit ws)
+  pub update-live : (j : ℕ) (y : Result) → p ≡ Some j → y ≡ update_live_result x ms ws (read limit ws) → y ≡ update_judged_result x ms ws (read limit ws)
   unfolding update_judged_result
   update-live j y h q = q ∙ on-found (live_hyperedges (read limit ws)) hyperedge_missing x ws _ p e j h
 
 -- j is what `judge_members` said
 module _ (x : ℕ) (ms ws : List ℕ) (j : Judgement) (by : JudgedBy j ms x (read limit ws)) where
-  pub update-refused : (a : Answer) → j ≡ Refused a → result_of a ws ≡ update_result x ms ws (read limit ws)
+  pub update-refused : (a : Refusal) → j ≡ Err a → result_of (Err a) ws ≡ update_result x ms ws (read limit ws)
   unfolding update_result
   update-refused a h = on-refused j ms x (read limit ws) by a ws _ h
 
-  pub update-fine : (y : Result) → j ≡ Fine → y ≡ update_judged_result x ms ws (read limit ws) → y ≡ update_result x ms ws (read limit ws)
+  pub update-fine : (y : Result) → j ≡ Ok tt → y ≡ update_judged_result x ms ws (read limit ws) → y ≡ update_result x ms ws (read limit ws)
   unfolding update_result update_judged_result update_live_result
   update-fine y h q = on_fine j ms x (read limit ws) by ws _ y h q

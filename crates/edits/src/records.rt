@@ -14,11 +14,7 @@ pub fn store(t: &mut [u32], a: usize, list: &[u32])
     requires { a + length list.now ≤ length t.old }
     ensures { t.new ≡ over_at a list.now t.old }
 {
-    let mut i = 0;
-    while i < list.len() {
-        t[a + i] = list[i];
-        i += 1;
-    }
+    t[a..a + list.len()].copy_from_slice(list);
 }
 
 // Stores n words of 0 from word a on.
@@ -26,11 +22,7 @@ pub fn store_zeros(t: &mut [u32], a: usize, n: usize)
     requires { a + n ≤ length t.old }
     ensures { t.new ≡ over_at a (replicate n 0) t.old }
 {
-    let mut k = 0;
-    while k < n {
-        t[a + k] = 0;
-        k += 1;
-    }
+    t[a..a + n].fill(0);
 }
 
 // Stores the member list of record j: its count, its members, and 0 in the words behind them.

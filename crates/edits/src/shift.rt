@@ -10,11 +10,7 @@ pub fn clear_words(s: &mut [u32], a: usize, k: usize)
     requires { a + k ≤ length s.old }
     ensures { s.new ≡ paste s.old a (replicate k 0) k }
 {
-    let mut i = 0;
-    while i < k {
-        s[a + i] = 0;
-        i += 1;
-    }
+    s[a..a + k].fill(0);
 }
 
 // Moves what is behind a + k down to a.
@@ -22,12 +18,7 @@ fn move_down(s: &mut [u32], a: usize, k: usize)
     requires { a + k ≤ length s.old }
     ensures { s.new ≡ paste s.old a (drop (a + k) s.old) (length s.old - (a + k)) }
 {
-    let n = s.len() - (a + k);
-    let mut j = 0;
-    while j < n {
-        s[a + j] = s[a + k + j];
-        j += 1;
-    }
+    s.copy_within(a + k.., a);
 }
 
 // Takes out the k words from a on.

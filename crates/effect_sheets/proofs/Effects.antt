@@ -1,12 +1,11 @@
 -- What became of a transfer, and of each one, as it is written on the page. Assumes nothing.
+use Rattle.std.specs.Prelude.{Option, Some, None}
 use mathlib.Core.Path.{◌≡◌, refl, sym, ◌∙◌}
 use mathlib.Core.Bool.{Bool, true, false}
 use mathlib.Core.List.{List, [], ◌∷◌}
 use Prim.Native.Nat.{ℕ, ◌+◌, ◌≤◌, ◌<◌}
 use lib.ListN.{drop}
 use Rattle.lists.specs.Lists.{same_list, flat}
-use Rattle.layout.specs.declared.Found.{Found}
-use Rattle.layout.specs.declared.Found.TheVariants.{At, Nothing}
 use Rattle.layout.specs.Content.{live_hyperedges, position}
 use Rattle.layout.specs.Layout.{limit, hyperedge_count, members_at, hyperedge_at, read_hyperedges, read}
 use Rattle.layout.proofs.Position.{found-live, missing-dead}
@@ -33,13 +32,13 @@ module _ (verb : List ℕ) (x : ℕ) (old members : List ℕ) (r : Bool) (e : r 
 
 -- ---- a transfer: x is the number of record j before, f what `find_hyperedge` found of it after
 
-module _ (verb ws ws' : List ℕ) (j x : ℕ) (ex : x ≡ (hyperedge_at limit ws j).number) (f : Found) (ef : f ≡ position x (live_hyperedges (read limit ws'))) where
-  pub gone-put : (p : Page) (c : List ℕ) (q : ℕ) → f ≡ Nothing → page c q ≡ write (filled (text "; transfer A withdrawn (emptied)") (x ∷ []) []) p
+module _ (verb ws ws' : List ℕ) (j x : ℕ) (ex : x ≡ (hyperedge_at limit ws j).number) (f : Option ℕ) (ef : f ≡ position x (live_hyperedges (read limit ws'))) where
+  pub gone-put : (p : Page) (c : List ℕ) (q : ℕ) → f ≡ None → page c q ≡ write (filled (text "; transfer A withdrawn (emptied)") (x ∷ []) []) p
       → page c q ≡ write (effect verb (read limit ws') (hyperedge_at limit ws j)) p
   unfolding effect emptied
   gone-put p c q h w = rw (← ex, missing-dead x (live_hyperedges (read limit ws')) (sym ef ∙ h)) w
 
-  module _ (k : ℕ) (h : f ≡ At k) where
+  module _ (k : ℕ) (h : f ≡ Some k) where
     pub found_within : k < hyperedge_count ws'
     found_within = (hyperedge-found limit ws' x k (sym ef ∙ h)).0
 

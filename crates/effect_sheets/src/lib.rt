@@ -7,7 +7,7 @@ ghost use Rattle.layout.specs.Inner.{Formed};
 ghost use Rattle.wording.specs.Pages.{page, write};
 ghost use Rattle.effect_sheets.specs.Effects.{relisted, effect, effects, withdrawn_said, tubes_said, transfers_said, merged_said};
 
-use layout::{Found, HyperedgeIndex, VertexIndex};
+use layout::{HyperedgeIndex, VertexIndex};
 use member_lists::same_members;
 use wording::{put_byte, put_form, put_text};
 use wording_lists::put_joined;
@@ -47,8 +47,8 @@ fn put_effect(
     let x = layout::hyperedge_number(before, j);
     let f = find::find_hyperedge(after, HyperedgeIndex(x));
     match f {
-        Found::Nothing => put_form(out, at, b"; transfer A withdrawn (emptied)", &[x], b""),
-        Found::At(k) => {
+        None => put_form(out, at, b"; transfer A withdrawn (emptied)", &[x], b""),
+        Some(k) => {
             let old = layout::members_formed(before, j);
             let members = layout::members_formed(after, k);
             put_relisted(verb, x, old, members, out, at)
@@ -64,10 +64,8 @@ pub fn put_effects(verb: &[u8], before: &[u32], after: &[u32], out: &mut [u8], a
 {
     let n = layout::hyperedge_count(before);
     let mut next = at;
-    let mut j = 0;
-    while j < n {
+    for j in 0..n {
         next = put_effect(verb, before, after, j, out, next);
-        j += 1;
     }
     next
 }

@@ -4,7 +4,7 @@ use mathlib.Core.Bool.{Bool, true, false, cond}
 use mathlib.Core.List.{List, [], ◌∷◌, ◌++◌}
 use Prim.Native.Nat.{ℕ, ◌≤◌, ◌<◌}
 use borrow.Author.Tests.{lt-ltb, le-ltb}
-use Rattle.layout.specs.declared.Answer.{Answer}
+use Rattle.layout.specs.Answers.{Answer}
 use Rattle.layout.specs.Answers.{detail}
 use Rattle.wording.specs.Texts.{text, decimal}
 use Rattle.wording.specs.Pages.{Page, page, write_byte, write}
@@ -55,7 +55,7 @@ module _ (n next w : ℕ) (list : List ℕ) (p : Page) (c : List ℕ) (q : ℕ) 
   unfolding transfer_said
   new-put h e = rw (le-ltb n next h) e
 
--- ---- n is what `reply_of` says of the answer
+-- ---- n is what `Reply::from` says of the answer
 
 module _ (plain : Bool) (a : Answer) (n : ℕ) (e : n ≡ detail a) (p : Page) (c : List ℕ) (q : ℕ) where
   pub number_put : (ys : List ℕ) → plain ≡ true → page c q ≡ write (number_alone n) p → page c q ≡ write (cond plain (number_alone (detail a)) ys) p

@@ -6,7 +6,7 @@ ghost use Rattle.layout.specs.Answers.{detail};
 ghost use Rattle.wording.specs.Pages.{page, write};
 ghost use Rattle.entry_sheets.specs.Entries.{number_alone, tube_said, identical_said, recorded_said, transfer_said, relist_said};
 
-use layout::{Answer, HyperedgeIndex};
+use layout::{Answer, HyperedgeIndex, Reply};
 use wording::{put_byte, put_form, put_number, put_text};
 use wording_lists::put_line;
 
@@ -29,7 +29,7 @@ fn put_tube(n: u64, weight: u32, out: &mut [u8], at: usize) -> usize
 pub fn say_tube(plain: bool, answer: Answer, weight: u32, out: &mut [u8], at: usize) -> usize
     ensures { page out.new result ≡ write (cond plain (number_alone (detail answer)) (tube_said (detail answer) weight)) (page out.old at) }
 {
-    let reply = layout::reply_of(answer);
+    let reply = Reply::from(answer);
     if plain {
         return put_alone(reply.detail, out, at);
     }
@@ -74,7 +74,7 @@ pub fn say_transfer(
 ) -> usize
     ensures { page out.new result ≡ write (cond plain (number_alone (detail answer)) (transfer_said (detail answer) next cost list.now)) (page out.old at) }
 {
-    let reply = layout::reply_of(answer);
+    let reply = Reply::from(answer);
     if plain {
         return put_alone(reply.detail, out, at);
     }

@@ -13,12 +13,10 @@ fn lists_vertex(ms: &[u32], v: u32) -> bool
     ensures { result ≡ memb v ms.now }
 {
     let mut found = false;
-    let mut i = 0;
-    while i < ms.len() {
+    for i in 0..ms.len() {
         if ms[i] == v {
             found = true;
         }
-        i += 1;
     }
     found
 }
@@ -46,10 +44,8 @@ fn judge_record(t: &[u32], j: usize, firsts: &mut [bool; 65536])
     ensures { FirstsMarked t.now (j + 1) 0 firsts.new }
 {
     let ms = layout::members_formed(t, j);
-    let mut p = 0;
-    while p < ms.len() {
+    for p in 0..ms.len() {
         mark(j, p, is_first(ms, p), firsts);
-        p += 1;
     }
 }
 
@@ -61,9 +57,7 @@ pub fn first_places(t: &[u32], firsts: &mut [bool; 65536])
     let blank = [false; 65536];
     *firsts = blank;
     let k = layout::hyperedge_count(t);
-    let mut j = 0;
-    while j < k {
+    for j in 0..k {
         judge_record(t, j, firsts);
-        j += 1;
     }
 }

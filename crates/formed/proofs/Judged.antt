@@ -1,4 +1,5 @@
 -- The test of a table in the code's order: what each step of it says of the whole. Assumes nothing.
+use Rattle.std.specs.Prelude.{Option, Some, None, is_some}
 use mathlib.Core.Path.{◌≡◌, sym, ap, ◌∙◌}
 use mathlib.Core.Bool.{Bool, true, false, not}
 use mathlib.Core.List.{List}
@@ -16,8 +17,6 @@ use Rattle.lists.proofs.Parts.{part_count, part-tail}
 use Rattle.lists.proofs.Tab.{length-tab, getD-tab}
 use Rattle.lists.proofs.Memb.{memb-getD}
 use Rattle.lists.proofs.Ascend.{climbs, climbs-is}
-use Rattle.layout.specs.declared.Found.{Found}
-use Rattle.layout.specs.declared.Found.TheVariants.{At, Nothing}
 use Rattle.layout.specs.Content.{is_live, numbered, members_live, valid, position}
 use Rattle.layout.specs.Layout.{limit, vertex_limit, hyperedge_limit, vertex_size, record_size, vertices_at, hyperedges_at, size, vertex_word, hyperedge_word, next_vertex_in, next_hyperedge_in, vertex_count, hyperedge_count, count_at, members_at, hyperedge_at, read}
 use Rattle.layout.specs.WellFormed.{record_shaped, unused_vertices, unused_hyperedges, shaped, well_formed}
@@ -94,14 +93,7 @@ module _ (L : ℕ) (ws : List ℕ) (n m : ℕ) (en : n ≡ vertex_count ws) (em 
 pub shaped-records : (L : ℕ) (ws : List ℕ) (m : ℕ) → Shaped L ws → m ≡ hyperedge_count ws → every (record_shaped L ws) m ≡ true
 shaped-records L ws m s e = rw e s.records
 
--- ---- a member: p is what a search for it found
-
-module _ (xs : List ℕ) (x : ℕ) (p : Found) (e : p ≡ position x xs) where
-  pub search-dead : p ≡ Nothing → false ≡ is_live xs x
-  search-dead h = sym (missing-dead x xs (sym e ∙ h))
-
-  pub search-live : (i : ℕ) → p ≡ At i → true ≡ is_live xs x
-  search-live i h = sym (found-live x xs i (sym e ∙ h))
+-- ---- a member
 
 -- where a guessed eighth begins
 pub eighth-low : (e : ℕ) → e % 8 * 32 ≤ 224

@@ -14,12 +14,10 @@ pub fn all_below(s: &[u32], high: u32) -> bool
     ensures { result ≡ all (is_below high) s.now }
 {
     let mut ok = true;
-    let mut i = 0;
-    while i < s.len() {
+    for i in 0..s.len() {
         if high <= s[i] {
             ok = false;
         }
-        i += 1;
     }
     ok
 }
@@ -37,8 +35,7 @@ pub fn climbing(t: &[u32], base: usize, step: usize, n: usize, next: u32) -> boo
     ensures { result ≡ numbered (column t.now base step n) next }
 {
     let mut low: u32 = 0;
-    let mut i = 0;
-    while i < n {
+    for i in 0..n {
         let x = t[base + i * step];
         if x < low {
             return false;
@@ -47,7 +44,6 @@ pub fn climbing(t: &[u32], base: usize, step: usize, n: usize, next: u32) -> boo
             return false;
         }
         low = x + 1;
-        i += 1;
     }
     true
 }
@@ -72,12 +68,10 @@ fn records_shaped(t: &[u32], m: usize) -> bool
     requires { (length t.now ≡ size limit) × (m ≤ hyperedge_limit) }
     ensures { result ≡ every (record_shaped limit t.now) m }
 {
-    let mut j = 0;
-    while j < m {
+    for j in 0..m {
         if !record_shaped(t, j) {
             return false;
         }
-        j += 1;
     }
     true
 }

@@ -1,4 +1,5 @@
 -- The document's words on what is read and on which line is faulty. Assumes nothing.
+use Rattle.std.specs.Prelude.{Ok, Err}
 use mathlib.Core.Path.{◌≡◌, refl, sym, ap, ◌∙◌}
 use mathlib.Core.Bool.{true, false}
 use mathlib.Core.Logic.{◌⊎◌, inl, inr}
@@ -14,7 +15,7 @@ use Rattle.lists.specs.Tests.{◌and◌}
 use Rattle.lists.specs.Lists.{memb, tab, flat}
 use Rattle.lists.proofs.Cases.{on, on_below, clash, and_left, and_right, or-false-left, or-false-right}
 use Rattle.lists.proofs.Tab.{length-tab, getD-tab}
-use Rattle.layout.specs.declared.Answer.TheVariants.{Done, BadText}
+use Rattle.layout.specs.declared.Refusal.TheVariants.{BadText}
 use Rattle.layout.specs.Content.{Table}
 use Rattle.layout.specs.Layout.{limit, size, read}
 use Rattle.layout.specs.WellFormed.{well_formed}
@@ -43,7 +44,7 @@ pub written-faultless : (text : List ℕ) → Written text → (k : ℕ) → Fau
 written-faultless text w k f = accepted-faultless text (written-accepted text w) k f
 
 -- a written text is read as the table that it was written from
-pub read-written : (text lent : List ℕ) (w : Written text) → length lent ≡ size limit → read_result text lent ≡ result_of (Done 0) w.table
+pub read-written : (text lent : List ℕ) (w : Written text) → length lent ≡ size limit → read_result text lent ≡ result_of (Ok 0) w.table
 read-written text lent w len = ap (λ (x : List ℕ). read_result x lent) (sym w.gives) ∙ round_trip w.table lent w.fits w.formed len
 
 -- so there is only one such table
@@ -54,7 +55,7 @@ written_once text w v =
     ap (λ (r : Result). r.lent) (sym (read-written text w.table w len) ∙ read-written text w.table v len)
 
 -- 12 names the faulty line, and changes no word
-pub read-faulty : (text lent : List ℕ) (k : ℕ) → length lent ≡ size limit → Faulty text k → read_result text lent ≡ result_of (BadText k) lent
+pub read-faulty : (text lent : List ℕ) (k : ℕ) → length lent ≡ size limit → Faulty text k → read_result text lent ≡ result_of (Err (BadText k)) lent
 unfolding read_result
 read-faulty text lent k len f =
     on (accepted text) (λ e. absurd (accepted-faultless text e k f)) (λ e. rw (eq-eqb (length lent) (size limit) len, e, faulty-only text e k f))

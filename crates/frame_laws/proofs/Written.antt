@@ -1,4 +1,5 @@
 -- What the writer gives is accepted, and read back as the table that it was written from. Assumes nothing.
+use Rattle.std.specs.Prelude.{Ok}
 use mathlib.Core.Path.{◌≡◌, refl, sym, ap, ◌∙◌}
 use mathlib.Core.Bool.{true}
 use mathlib.Core.List.{List}
@@ -9,7 +10,6 @@ use borrow.Author.Tests.{eq-eqb}
 use Rattle.lists.specs.Tests.{◌and◌}
 use Rattle.lists.specs.Lists.{all}
 use Rattle.lists.proofs.Cases.{and_left, and_both}
-use Rattle.layout.specs.declared.Answer.TheVariants.{Done}
 use Rattle.layout.specs.Content.{Table}
 use Rattle.layout.specs.Layout.{limit, size, read}
 use Rattle.layout.specs.WellFormed.{well_formed}
@@ -54,7 +54,7 @@ written-accepted text w =
 
 -- and reading it into a table of the right length gives the words that it was written from
 pub round_trip : (ws lent : List ℕ) → all is_word ws ≡ true → well_formed limit ws ≡ true → length lent ≡ size limit
-    → read_result (frame_text (read limit ws)) lent ≡ result_of (Done 0) ws
+    → read_result (frame_text (read limit ws)) lent ≡ result_of (Ok 0) ws
 unfolding read_result well_formed
 round_trip ws lent f e len =
     let t : Table = read limit ws in

@@ -1,20 +1,22 @@
 -- Bytes as digits: where they are put, and their sums. Assumes nothing.
-use mathlib.Core.Path.{◌≡◌, refl, sym, ◌∙◌}
+use mathlib.Core.Path.{◌≡◌, refl, ◌∙◌}
 use mathlib.Core.Bool.{Bool, true}
 use mathlib.Core.Logic.{◌⊎◌, ⊎_elim}
-use mathlib.Core.List.{List, [], ◌∷◌, ◌++◌, append_assoc}
-use Prim.Native.Nat.{ℕ, ◌+◌, ◌*◌, ◌/◌, ◌%◌, ◌≤◌, ◌<◌}
+use mathlib.Core.List.{List, [], ◌∷◌, ◌++◌}
+use Prim.Native.Nat.{ℕ, ◌+◌, ◌-◌, ◌*◌, ◌/◌, ◌%◌, ◌≤◌, ◌<◌}
 use native.Mathlib.Nat.{le_antisymm, not-suc-le-zero, le_of_suc-le-suc, eq-or-lt_of_le}
 use native.Mathlib.Numerals.{add-one}
 use native.Mathlib.Omega.{arith}
 use lib.Dec.{eqb}
-use lib.ListN.{length, get_or, set, take, drop, length-set}
-use lib.Seq.{get_or-set_same, get_or-set_other, paste, paste-suc, take-length}
+use lib.ListN.{length, get_or, set, length-set}
+use lib.Seq.{get_or-set_same, get_or-set_other}
 use borrow.Author.Tests.{eqb-true}
 use Rattle.lists.specs.Tests.{◌and◌, every}
-use Rattle.lists.specs.Lists.{flat, sum_over}
+use Rattle.lists.specs.Lists.{over, flat, sum_over}
+use Rattle.lists.specs.Inner.{over_at}
+use borrow.Rule.Slice.PartMut.{put_mid}
 use Rattle.lists.proofs.Every.{every-at}
-use Rattle.lists.proofs.OverAt.{over-at-split, over-at-pair}
+use Rattle.lists.proofs.OverAt.{over-at-pair}
 use Rattle.frames.specs.Frames.{byte_values, byte_of, number_bytes, short_bytes, byte_sum, balance, digit, byte_digits, digits, line_feed}
 use Rattle.frames.specs.Put.{number_digits, Put}
 use Rattle.frames.specs.Pairs.{Pairs}
@@ -86,16 +88,14 @@ byte_put at b ps text p h f = record {
 pub byte-is : (at b k : ℕ) (before : List ℕ) → b ≡ k → (after : List ℕ) (next : ℕ) → Put at 2 (byte_digits b) before after next → Put at 2 (byte_digits k) before after next
 byte-is at b k before e after next p = rw (← e) p
 
--- ---- bytes copied: j of them
+-- ---- bytes copied: part is what stands in the place of s now
 
-module _ (d text : List ℕ) (at : ℕ) (s : List ℕ) (j : ℕ) (e : text ≡ paste d at s j) where
-  pub copied_more : at + length s ≤ length d → j < length s → set text (at + j) (get_or s j 0) ≡ paste d at s (j + 1)
-  copied_more f h = rw (e, add-one j) (paste-suc d at s j 0 (omega arith) h)
-
-  pub copied-end : at + length s ≤ length d → j ≤ length s → length s ≤ j → Put at (length s) s d text (at + j)
-  copied-end f a b =
-      let q : j ≡ length s = le_antisymm a b in
-      record { sized = refl; fits = f; reached = rw q; wrote = e ∙ rw (q, take-length) (append_assoc (take at d) s (drop (at + length s) d) ∙ sym (over-at-split at s d)) }
+pub bytes-copied : (at : ℕ) (s d part : List ℕ) → part ≡ s → at + length s ≤ length d
+    → Put at (length s) s d (put_mid at (at + length s - at) d part) (at + length s)
+unfolding over over_at
+bytes-copied at s d part q f =
+    let e : at + length s - at ≡ length s = omega arith in
+    record { sized = refl; fits = f; reached = refl; wrote = rw (e, q) refl }
 
 -- ---- numbers; w is what `wide` made of x
 

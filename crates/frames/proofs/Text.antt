@@ -1,4 +1,5 @@
 -- The text: the lines of each kind, put one after the other, and their lengths. Assumes nothing.
+use Rattle.std.specs.Prelude.{Ok, Err}
 use mathlib.Core.Path.{◌≡◌, refl, sym, ap, ◌∙◌}
 use mathlib.Core.Logic.{⊎_elim}
 use mathlib.Core.List.{List, [], ◌∷◌, ◌++◌}
@@ -10,7 +11,7 @@ use lib.ListN.{length, get_or, length-append}
 use Rattle.lists.specs.Lists.{tab, flat}
 use Rattle.lists.proofs.Tab.{length-tab}
 use Rattle.lists.proofs.Flat.{flat-length, flat-suc, flat-more}
-use Rattle.layout.specs.declared.Answer.TheVariants.{Done, NoRoom}
+use Rattle.layout.specs.declared.Refusal.TheVariants.{NoRoom}
 use Rattle.layout.specs.Content.{Vertex, Hyperedge, Table, vertex_of, hyperedge_of}
 use Rattle.layout.specs.Layout.{next_vertex_in, next_hyperedge_in, vertex_count, hyperedge_count, vertex_at, members_at, hyperedge_at, read}
 use Rattle.layout.specs.Inner.{Formed}
@@ -170,10 +171,10 @@ module _ (L : ℕ) (ws : List ℕ) (n m : ℕ) (en : n ≡ vertex_count ws) (em 
 -- ---- 11, or the text
 
 module _ (t : Table) (text : List ℕ) (k : ℕ) (e : k ≡ length (frame_text t)) where
-  pub write-over : length text < k → result_of (NoRoom k) text ≡ write_result text t
+  pub write-over : length text < k → result_of (Err (NoRoom k)) text ≡ write_result text t
   unfolding write_result
   write-over h = listed-over (frame_text t) text k e h
 
-  pub write-fits : (exit : List ℕ) (n next : ℕ) → k ≤ length text → Put 0 n (frame_text t) text exit next → result_of (Done k) exit ≡ write_result text t
+  pub write-fits : (exit : List ℕ) (n next : ℕ) → k ≤ length text → Put 0 n (frame_text t) text exit next → result_of (Ok k) exit ≡ write_result text t
   unfolding write_result
   write-fits exit n next h p = listed-fits (frame_text t) text k e exit h (put-over p)

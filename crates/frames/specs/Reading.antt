@@ -1,10 +1,10 @@
 -- Reading frame text: what stands in a text, which of its lines are good, and what a read answers and leaves. By `accepted-written`,
 -- `written-accepted`, `round_trip` and `faulty-line` (frame_laws) a read accepts the texts that are `Written`, gives back the words that they were
 -- written from, and names the line that is `Faulty`: who believes Frames.antt and Faulty.antt need not believe this file. Assumes nothing.
-use Rattle.std.specs.Prelude.{Bool, true, cond, ◌||◌, List, ℕ, zero, suc, ◌+◌, ◌*◌, ◌-◌, eqb, leb, ltb, length, get_or, take, drop}
+use Rattle.std.specs.Prelude.{Bool, true, cond, ◌||◌, List, ℕ, zero, suc, ◌+◌, ◌*◌, ◌-◌, eqb, leb, ltb, length, get_or, take, drop, Ok, Err}
 use Rattle.lists.specs.Tests.{◌and◌}
 use Rattle.lists.specs.Lists.{same_list, tab}
-use Rattle.layout.specs.declared.Answer.TheVariants.{Done, NotWellFormed, BadText}
+use Rattle.layout.specs.declared.Refusal.TheVariants.{NotWellFormed, BadText}
 use Rattle.layout.specs.Content.{Vertex, Hyperedge, Table, live_vertices, members_live, vertex_of, hyperedge_of}
 use Rattle.layout.specs.Layout.{vertex_limit, hyperedge_limit, limit, size, words}
 use Rattle.layout.specs.WellFormed.{count_fits}
@@ -167,5 +167,5 @@ faulty_line text = suc (good_lines text)
 unfoldable pub read_result : List ℕ → List ℕ → Result
 read_result text lent =
     cond (eqb (length lent) (size limit))
-    (cond (accepted text) (result_of (Done 0) (words limit (content_of text))) (result_of (BadText (faulty_line text)) lent))
-    (result_of NotWellFormed lent)
+    (cond (accepted text) (result_of (Ok 0) (words limit (content_of text))) (result_of (Err (BadText (faulty_line text))) lent))
+    (result_of (Err NotWellFormed) lent)

@@ -40,11 +40,9 @@ pub fn byte_pairs() -> [u8; 512]
     // an index into a constant copies the whole of it, so it is copied once
     let digits = DIGITS;
     let mut pairs = [0u8; 512];
-    let mut b = 0;
-    while b < BYTE_VALUES {
+    for b in 0..BYTE_VALUES {
         pairs[b * 2] = digits[b / 16];
         pairs[b * 2 + 1] = digits[b % 16];
-        b += 1;
     }
     pairs
 }
@@ -68,12 +66,9 @@ pub fn put_bytes(text: &mut [u8], at: usize, bytes: &[u8]) -> usize
     requires { at + length bytes.now ≤ length text.old }
     ensures { Put at (length bytes.now) bytes.now text.old text.new result }
 {
-    let mut i = 0;
-    while i < bytes.len() {
-        text[at + i] = bytes[i];
-        i += 1;
-    }
-    at + i
+    let end = at + bytes.len();
+    text[at..end].copy_from_slice(bytes);
+    end
 }
 
 // The byte of x that counts the units.

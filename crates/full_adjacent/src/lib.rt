@@ -12,7 +12,7 @@ ghost use Rattle.lookups.specs.State.{listing_most, listing_ahead, nothing, tall
 ghost use Rattle.lookups.specs.Results.{full_adjacent_result};
 
 use full_entries::{fill, words_for, write_heads};
-use layout::{Answer, Found, VertexIndex};
+use layout::{Answer, Refusal, VertexIndex};
 use lookups::{Direction, ends_at};
 
 // One place more of vertex x, where it is live.
@@ -21,10 +21,8 @@ fn tally(t: &[u32], x: u32, counts: &mut [usize; 256])
     requires by_index { (k : ℕ) → k < vertex_count t.now → get_or counts.old k 0 ≤ listing_most }
     ensures { counts.new ≡ tallying (position x (live_vertices (read limit t.now))) counts.old }
 {
-    let f = find::find_vertex(t, VertexIndex(x));
-    match f {
-        Found::Nothing => {}
-        Found::At(k) => counts[k] += 1,
+    if let Some(k) = find::find_vertex(t, VertexIndex(x)) {
+        counts[k] += 1;
     }
 }
 
@@ -35,13 +33,11 @@ fn tally_record(t: &[u32], j: usize, v: u32, dir: Direction, counts: &mut [usize
     ensures { Tallied (live_vertices (read limit t.now)) (connecting dir (read limit t.now) v) (listing_ahead dir (read limit t.now) v (j + 1)) counts.new }
 {
     let ms = layout::members_formed(t, j);
-    let mut i = 0;
-    while i + 1 < ms.len() {
+    for i in 0..ms.len().saturating_sub(1) {
         let ends = ends_at(ms, i, dir);
         if ends.near == v {
             tally(t, ends.far, counts);
         }
-        i += 1;
     }
 }
 
@@ -51,10 +47,8 @@ fn tally_places(t: &[u32], v: u32, dir: Direction) -> [usize; 256]
 {
     let m = layout::hyperedge_count(t);
     let mut counts = [0usize; 256];
-    let mut j = 0;
-    while j < m {
+    for j in 0..m {
         tally_record(t, j, v, dir, &mut counts);
-        j += 1;
     }
     counts
 }
@@ -66,10 +60,8 @@ fn words_needed(counts: &[usize; 256], n: usize) -> usize
     ensures { result ≡ start counts.now n }
 {
     let mut c = 0;
-    let mut k = 0;
-    while k < n {
+    for k in 0..n {
         c += words_for(counts[k]);
-        k += 1;
     }
     c
 }
@@ -82,11 +74,11 @@ fn list_full(t: &[u32], v: u32, dir: Direction, out: &mut [u32]) -> Answer
     let counts = tally_places(t, v, dir);
     let c = words_needed(&counts, n);
     if out.len() < c {
-        return Answer::NoRoom(c);
+        return Err(Refusal::NoRoom(c));
     }
     let mut nexts = write_heads(t, n, &counts, out);
     fill(t, v, dir, &mut nexts, out);
-    Answer::Done(c)
+    Ok(c)
 }
 
 // The adjacent vertices with their hyperedges, where the vertex is live.
@@ -94,11 +86,8 @@ fn list_full_adjacent(t: &[u32], v: VertexIndex, dir: Direction, out: &mut [u32]
     requires { Formed limit t.now }
     ensures { result_of result out.new ≡ full_adjacent_result dir v.0 out.old (read limit t.now) }
 {
-    let f = find::find_vertex(t, v);
-    match f {
-        Found::Nothing => Answer::VertexNotLive(v),
-        Found::At(_) => list_full(t, v.0, dir, out),
-    }
+    find::find_vertex(t, v).ok_or(Refusal::VertexNotLive(v))?;
+    list_full(t, v.0, dir, out)
 }
 
 // The vertices that a step from the vertex leads to, each with the hyperedges that step there.
@@ -106,7 +95,7 @@ pub fn get_full_adjacent_vertices_from(t: &[u32], v: VertexIndex, out: &mut [u32
     ensures { result_of result out.new ≡ on_formed t.now out.old (full_adjacent_result From v.0 out.old) }
 {
     if !well_formed::well_formed(t) {
-        return Answer::NotWellFormed;
+        return Err(Refusal::NotWellFormed);
     }
     list_full_adjacent(t, v, Direction::From, out)
 }
@@ -116,7 +105,7 @@ pub fn get_full_adjacent_vertices_to(t: &[u32], v: VertexIndex, out: &mut [u32])
     ensures { result_of result out.new ≡ on_formed t.now out.old (full_adjacent_result To v.0 out.old) }
 {
     if !well_formed::well_formed(t) {
-        return Answer::NotWellFormed;
+        return Err(Refusal::NotWellFormed);
     }
     list_full_adjacent(t, v, Direction::To, out)
 }

@@ -5,11 +5,10 @@ ghost use Rattle.std.specs.Prelude.{◌≡◌, ℕ, ◌+◌, ◌<◌, ◌≤◌,
 ghost use Rattle.layout.specs.Content.{live_vertices, position};
 ghost use Rattle.layout.specs.Layout.{limit, vertex_limit, vertex_count, hyperedge_count, read};
 ghost use Rattle.layout.specs.Inner.{Formed};
-ghost use Rattle.layout.specs.declared.Found.TheVariants.{At};
 ghost use Rattle.lookups.specs.Lookups.{connecting};
 ghost use Rattle.lookups.specs.State.{listing_most, listing_ahead, nothing, tallying, words_for, head_for, start, heading, Beyond, Headed, offset, placing, Filling};
 
-use layout::{Found, VertexIndex};
+use layout::VertexIndex;
 use lookups::{Direction, ends_at};
 
 // The words of a vertex with so many hyperedges.
@@ -46,11 +45,9 @@ pub fn write_heads(t: &[u32], n: usize, counts: &[usize; 256], out: &mut [u32]) 
 {
     let mut nexts = [0usize; 256];
     let mut c = 0;
-    let mut k = 0;
-    while k < n {
+    for k in 0..n {
         nexts[k] = write_head(layout::vertex_number(t, k), counts[k], c, out);
         c += words_for(counts[k]);
-        k += 1;
     }
     nexts
 }
@@ -58,18 +55,14 @@ pub fn write_heads(t: &[u32], n: usize, counts: &[usize; 256], out: &mut [u32]) 
 // Writes e at the next word of vertex x, where it is live.
 fn put(t: &[u32], x: u32, e: u32, nexts: &mut [usize; 256], out: &mut [u32])
     requires formed { Formed limit t.now }
-    requires by_index { (k : ℕ) → position x (live_vertices (read limit t.now)) ≡ At k → get_or nexts.old k 0 < length out.old }
+    requires by_index { (k : ℕ) → position x (live_vertices (read limit t.now)) ≡ Some k → get_or nexts.old k 0 < length out.old }
     ensures nexts_after { nexts.new ≡ tallying (position x (live_vertices (read limit t.now))) nexts.old }
     ensures out_after { out.new ≡ placing (position x (live_vertices (read limit t.now))) nexts.old e out.old }
 {
-    let f = find::find_vertex(t, VertexIndex(x));
-    match f {
-        Found::Nothing => {}
-        Found::At(k) => {
-            let p = nexts[k];
-            out[p] = e;
-            nexts[k] = p + 1;
-        }
+    if let Some(k) = find::find_vertex(t, VertexIndex(x)) {
+        let p = nexts[k];
+        out[p] = e;
+        nexts[k] = p + 1;
     }
 }
 
@@ -89,13 +82,11 @@ fn fill_record(
 {
     let ms = layout::members_formed(t, j);
     let e = layout::hyperedge_number(t, j);
-    let mut i = 0;
-    while i + 1 < ms.len() {
+    for i in 0..ms.len().saturating_sub(1) {
         let ends = ends_at(ms, i, dir);
         if ends.near == v {
             put(t, ends.far, e, nexts, out);
         }
-        i += 1;
     }
 }
 
@@ -106,9 +97,7 @@ pub fn fill(t: &[u32], v: u32, dir: Direction, nexts: &mut [usize; 256], out: &m
     ensures beyond { Beyond (offset (live_vertices (read limit t.now)) (connecting dir (read limit t.now) v) (length (live_vertices (read limit t.now)))) out.old out.new }
 {
     let m = layout::hyperedge_count(t);
-    let mut j = 0;
-    while j < m {
+    for j in 0..m {
         fill_record(t, j, v, dir, nexts, out);
-        j += 1;
     }
 }

@@ -11,7 +11,7 @@ use lib.Dec.{eqb}
 use lib.ListN.{length, get_or, take, set, length-set}
 use lib.Seq.{length-take-le, take_all, take-suc, take-set-le, take-suc-set, get_or-set_other, get_or-take}
 use Rattle.lists.specs.Lists.{memb, filter}
-use Rattle.lists.specs.Tests.{◌and◌, bit, chosen}
+use Rattle.lists.specs.Tests.{bit, chosen}
 use Rattle.lists.proofs.Cases.{on, clash, and-false-right}
 use Rattle.lists.proofs.Chosen.{chosen-in, chosen-out, chosen_none}
 use Rattle.lists.proofs.Filter.{filter-snoc}

@@ -24,12 +24,10 @@ fn step_places(ms: &[u32], x: u32, y: u32) -> usize
     ensures { result ≡ places (is_step x y) ms.now }
 {
     let mut n: usize = 0;
-    let mut i = 0;
-    while i + 1 < ms.len() {
+    for i in 0..ms.len().saturating_sub(1) {
         if is_step(ms, i, x, y) {
             n += 1;
         }
-        i += 1;
     }
     n
 }
@@ -39,11 +37,7 @@ fn repeat(x: u32, k: usize, out: &mut [u32])
     requires { k ≤ length out.old }
     ensures { out.new ≡ over (replicate k x) out.old }
 {
-    let mut i = 0;
-    while i < k {
-        out[i] = x;
-        i += 1;
-    }
+    out[..k].fill(x);
 }
 
 // Writes a list from the front of out.
@@ -51,11 +45,7 @@ fn copy(xs: &[u32], out: &mut [u32])
     requires { length xs.now ≤ length out.old }
     ensures { out.new ≡ over xs.now out.old }
 {
-    let mut i = 0;
-    while i < xs.len() {
-        out[i] = xs[i];
-        i += 1;
-    }
+    out[..xs.len()].copy_from_slice(xs);
 }
 
 // The length and the members of a record: a part of the table, where they lie.
@@ -139,10 +129,8 @@ pub fn count_blocks(t: &[u32], q: Listing) -> usize
 {
     let m = layout::hyperedge_count(t);
     let mut n = 0;
-    let mut j = 0;
-    while j < m {
+    for j in 0..m {
         n += block_length(t, j, q);
-        j += 1;
     }
     n
 }
@@ -154,10 +142,8 @@ pub fn write_blocks(t: &[u32], q: Listing, out: &mut [u32])
 {
     let m = layout::hyperedge_count(t);
     let mut c = 0;
-    let mut j = 0;
-    while j < m {
+    for j in 0..m {
         let k = write_block(t, j, q, &mut out[c..]);
         c += k;
-        j += 1;
     }
 }

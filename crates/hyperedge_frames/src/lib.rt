@@ -19,10 +19,8 @@ fn put_members(text: &mut [u8], at: usize, pairs: &[u8; 512], members: &[u32]) -
     ensures { Put at (length members.now * member_length) (flat number_digits members.now) text.old text.new result }
 {
     let mut next = at;
-    let mut i = 0;
-    while i < members.len() {
+    for i in 0..members.len() {
         next = put_number(text, next, pairs, members[i]);
-        i += 1;
     }
     next
 }
@@ -32,10 +30,8 @@ fn members_sum(members: &[u32]) -> usize
     ensures { (result ≡ byte_sum (flat number_bytes members.now)) × (result ≤ limit * 1020) }
 {
     let mut sum = 0;
-    let mut i = 0;
-    while i < members.len() {
+    for i in 0..members.len() {
         sum += number_sum(members[i]);
-        i += 1;
     }
     sum
 }
@@ -94,10 +90,8 @@ pub fn put_hyperedges(text: &mut [u8], at: usize, pairs: &[u8; 512], t: &[u32], 
     ensures { Put at (length (flat hyperedge_line (tab (hyperedge_at limit t.now) m))) (flat hyperedge_line (tab (hyperedge_at limit t.now) m)) text.old text.new result }
 {
     let mut next = at;
-    let mut j = 0;
-    while j < m {
+    for j in 0..m {
         next = put_hyperedge_at(text, next, pairs, t, j);
-        j += 1;
     }
     next
 }

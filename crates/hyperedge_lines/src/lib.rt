@@ -25,12 +25,10 @@ fn list_live(words: &[u32], list: &[u32]) -> bool
     requires { Live words.now }
     ensures { result ≡ all (is_live (vertex_column words.now)) list.now }
 {
-    let mut i = 0;
-    while i < list.len() {
+    for i in 0..list.len() {
         if !is_live(words, wide_word(list[i])) {
             return false;
         }
-        i += 1;
     }
     true
 }
@@ -39,12 +37,9 @@ fn put_words(words: &mut [u32], to: usize, list: &[u32]) -> usize
     requires { to + length list.now ≤ length words.old }
     ensures { Put to (length list.now) list.now words.old words.new result }
 {
-    let mut i = 0;
-    while i < list.len() {
-        words[to + i] = list[i];
-        i += 1;
-    }
-    to + i
+    let end = to + list.len();
+    words[to..end].copy_from_slice(list);
+    end
 }
 
 // Stores the hyperedge of the line at the place, whose k members, and 0 behind them, are the list.
@@ -158,8 +153,7 @@ fn hyperedges_from(
     let mut at = place;
     let mut low = 0;
     let mut to = layout::HYPEREDGES_AT;
-    let mut i = 0;
-    while i < m {
+    for i in 0..m {
         let end = read_hyperedge(words, to, values, text, at, low, next - (m - i));
         if end == at {
             return Walked { lines: i, at };
@@ -167,9 +161,8 @@ fn hyperedges_from(
         low = number_at(values, text, at + NUMBER_AT) + 1;
         at = end;
         to += layout::RECORD_SIZE;
-        i += 1;
     }
-    Walked { lines: i, at }
+    Walked { lines: m, at }
 }
 
 // The same, with the head's numbers from the words.

@@ -9,7 +9,7 @@ ghost use Rattle.lookups.specs.Lookups.{listing};
 ghost use Rattle.lookups.specs.Results.{listing_result, connecting_result, weighing_result, full_hyperedges_result};
 
 use hyperedge_blocks::{count_blocks, write_blocks};
-use layout::{Answer, Found, VertexIndex};
+use layout::{Answer, Refusal, VertexIndex};
 use lookups::Listing;
 
 fn list_blocks(t: &[u32], q: Listing, out: &mut [u32]) -> Answer
@@ -18,10 +18,10 @@ fn list_blocks(t: &[u32], q: Listing, out: &mut [u32]) -> Answer
 {
     let n = count_blocks(t, q);
     if out.len() < n {
-        return Answer::NoRoom(n);
+        return Err(Refusal::NoRoom(n));
     }
     write_blocks(t, q, out);
-    Answer::Done(n)
+    Ok(n)
 }
 
 // The listing, where the vertex is live.
@@ -29,11 +29,8 @@ fn list_of_vertex(t: &[u32], v: VertexIndex, q: Listing, out: &mut [u32]) -> Ans
     requires { Formed limit t.now }
     ensures { result_of result out.new ≡ listing_result v.0 q out.old (read limit t.now) }
 {
-    let f = find::find_vertex(t, v);
-    match f {
-        Found::Nothing => Answer::VertexNotLive(v),
-        Found::At(_) => list_blocks(t, q, out),
-    }
+    find::find_vertex(t, v).ok_or(Refusal::VertexNotLive(v))?;
+    list_blocks(t, q, out)
 }
 
 // The hyperedges that step from one vertex to another, once for each place. The second vertex need not be live.
@@ -46,7 +43,7 @@ pub fn get_hyperedges_connecting(
     ensures { result_of result out.new ≡ on_formed t.now out.old (connecting_result from.0 to.0 out.old) }
 {
     if !well_formed::well_formed(t) {
-        return Answer::NotWellFormed;
+        return Err(Refusal::NotWellFormed);
     }
     list_of_vertex(t, from, Listing::Connecting(from.0, to.0), out)
 }
@@ -56,7 +53,7 @@ pub fn find_hyperedges_by_weight(t: &[u32], weight: u32, out: &mut [u32]) -> Ans
     ensures { result_of result out.new ≡ on_formed t.now out.old (weighing_result weight out.old) }
 {
     if !well_formed::well_formed(t) {
-        return Answer::NotWellFormed;
+        return Err(Refusal::NotWellFormed);
     }
     list_blocks(t, Listing::Weighing(weight), out)
 }
@@ -66,7 +63,7 @@ pub fn get_full_vertex_hyperedges(t: &[u32], v: VertexIndex, out: &mut [u32]) ->
     ensures { result_of result out.new ≡ on_formed t.now out.old (full_hyperedges_result v.0 out.old) }
 {
     if !well_formed::well_formed(t) {
-        return Answer::NotWellFormed;
+        return Err(Refusal::NotWellFormed);
     }
     list_of_vertex(t, v, Listing::Holding(v.0), out)
 }

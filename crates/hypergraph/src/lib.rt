@@ -6,17 +6,17 @@ ghost use Rattle.layout.specs.Answers.{on_formed, result_of};
 ghost use Rattle.edits.specs.Results.{clear_result, empty_result};
 
 use edits::records::store_zeros;
-use layout::Answer;
+use layout::{Answer, Refusal};
 
 // Zeroes every word.
 pub fn clear(t: &mut [u32]) -> Answer
     ensures { result_of result t.new ≡ clear_result t.old }
 {
     if t.len() != layout::SIZE {
-        return Answer::NotWellFormed;
+        return Err(Refusal::NotWellFormed);
     }
     store_zeros(t, 0, layout::SIZE);
-    Answer::Done(0)
+    Ok(0)
 }
 
 // Whether no vertex is live: then no hyperedge is either.
@@ -24,10 +24,10 @@ pub fn is_empty(t: &[u32]) -> Answer
     ensures { result_of result [] ≡ on_formed t.now [] empty_result }
 {
     if !well_formed::well_formed(t) {
-        return Answer::NotWellFormed;
+        return Err(Refusal::NotWellFormed);
     }
     if layout::vertex_count(t) == 0 {
-        return Answer::Done(1);
+        return Ok(1);
     }
-    Answer::Done(0)
+    Ok(0)
 }

@@ -11,7 +11,7 @@ ghost use Rattle.properties.specs.Properties.{pair, pairs_of, inclusions};
 ghost use Rattle.properties.specs.Results.{inclusions_result};
 ghost use Rattle.properties.specs.State.{Sets};
 
-use layout::Answer;
+use layout::{Answer, Refusal};
 use member_sets::{member_sets, strictly_within};
 
 // How many words the pair of records a and b has.
@@ -58,10 +58,8 @@ fn count_of(t: &[u32], m: &[bool; 65536], sizes: &[usize; 256], a: usize) -> usi
 {
     let k = layout::hyperedge_count(t);
     let mut c = 0;
-    let mut b = 0;
-    while b < k {
+    for b in 0..k {
         c += pair_length(t, m, sizes, a, b);
-        b += 1;
     }
     c
 }
@@ -75,11 +73,9 @@ fn write_of(t: &[u32], m: &[bool; 65536], sizes: &[usize; 256], a: usize, out: &
 {
     let k = layout::hyperedge_count(t);
     let mut c = 0;
-    let mut b = 0;
-    while b < k {
+    for b in 0..k {
         let w = write_pair(t, m, sizes, a, b, &mut out[c..]);
         c += w;
-        b += 1;
     }
     c
 }
@@ -91,10 +87,8 @@ fn count_pairs(t: &[u32], m: &[bool; 65536], sizes: &[usize; 256]) -> usize
 {
     let k = layout::hyperedge_count(t);
     let mut c = 0;
-    let mut a = 0;
-    while a < k {
+    for a in 0..k {
         c += count_of(t, m, sizes, a);
-        a += 1;
     }
     c
 }
@@ -107,11 +101,9 @@ fn write_pairs(t: &[u32], m: &[bool; 65536], sizes: &[usize; 256], out: &mut [u3
 {
     let k = layout::hyperedge_count(t);
     let mut c = 0;
-    let mut a = 0;
-    while a < k {
+    for a in 0..k {
         let w = write_of(t, m, sizes, a, &mut out[c..]);
         c += w;
-        a += 1;
     }
 }
 
@@ -124,10 +116,10 @@ fn list_inclusions(t: &[u32], out: &mut [u32]) -> Answer
     member_sets(t, &mut m, &mut sizes);
     let c = count_pairs(t, &m, &sizes);
     if out.len() < c {
-        return Answer::NoRoom(c);
+        return Err(Refusal::NoRoom(c));
     }
     write_pairs(t, &m, &sizes, out);
-    Answer::Done(c)
+    Ok(c)
 }
 
 // The pairs of hyperedges of which the first's distinct members are strictly within the second's.
@@ -135,7 +127,7 @@ pub fn get_inclusions(t: &[u32], out: &mut [u32]) -> Answer
     ensures { result_of result out.new ≡ on_formed t.now out.old (inclusions_result out.old) }
 {
     if !well_formed::well_formed(t) {
-        return Answer::NotWellFormed;
+        return Err(Refusal::NotWellFormed);
     }
     list_inclusions(t, out)
 }

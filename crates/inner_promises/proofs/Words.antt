@@ -1,5 +1,6 @@
 -- The test of a table, words stored and moved, records of a tray, and lists of members: any two results that keep the promise on the same input
 -- agree. Assumes nothing.
+use Rattle.std.specs.Prelude.{Ok, Err}
 use mathlib.Core.Path.{◌≡◌, refl, sym, ap, ◌∙◌}
 use mathlib.Core.List.{List, [], ◌∷◌}
 use Prim.Native.Nat.{ℕ}
@@ -11,11 +12,10 @@ use prog.Memory.{Memory}
 use prog.Routine.{Routine}
 use types.Logic.{Logic}
 use contract.Monad.{Fun}
-use Rattle.layout.specs.declared.Answer.TheVariants.{Full}
-use Rattle.layout.specs.Answers.{Result, result_of}
+use Rattle.layout.specs.declared.Refusal.TheVariants.{Full}
+use Rattle.layout.specs.Answers.{Answer, Result, result_of}
 use Rattle.layout.proofs.Answers.{agree}
-use Rattle.edits.specs.declared.Judgement.{Judgement}
-use Rattle.edits.specs.declared.Judgement.TheVariants.{Refused, Fine}
+use Rattle.edits.specs.Stages.{Judgement}
 use Rattle.edits.specs.Stages.{or_else}
 use Rattle.tray_marks.specs.Marking.{tray_of}
 use Rattle.agreement.specs.Agreement.{Agrees, Promise, IsContract, AgreesBy}
@@ -146,10 +146,12 @@ find-side-by-side-agrees κs args a b x y p q = (p ∙ sym q, refl)
 
 -- a refusal changes no lent word, and what is fine leaves any result: which of the two was given, and by what answer, shows in the results
 or-else-one : (i j : Judgement) → ((r : Result) → or_else i [] r ≡ or_else j [] r) → i ≡ j
-or-else-one (Refused a) (Refused b) h = ap Refused (agree (result_of b []) {y = []} (h (result_of Full [])) refl).0
-or-else-one (Refused a) Fine h = absurd (omega (arith, ap (λ (r : Result). length r.lent) (h (result_of Full (0 ∷ [])))))
-or-else-one Fine (Refused b) h = absurd (omega (arith, ap (λ (r : Result). length r.lent) (h (result_of Full (0 ∷ [])))))
-or-else-one Fine Fine h = refl
+or-else-one (Err a) (Err b) h =
+    let q : ◌≡◌ {A = Answer} (Err a) (Err b) = (agree (result_of (Err b) []) {a = Err a} {b = Err b} {y = []} (h (result_of (Err Full) [])) refl).0 in
+    let e : a ≡ b = cc in ap Err e
+or-else-one (Err a) (Ok b) h = absurd (omega (arith, ap (λ (r : Result). length r.lent) (h (result_of (Err Full) (0 ∷ [])))))
+or-else-one (Ok a) (Err b) h = absurd (omega (arith, ap (λ (r : Result). length r.lent) (h (result_of (Err Full) (0 ∷ [])))))
+or-else-one (Ok a) (Ok b) h = refl
 
 pub judge-members-agrees : Agrees 2 judge-members.ps judge-members.r judge-members-reads.Post (λ _ _. [])
 judge-members-agrees κs args a b x y p q = (or-else-one a b (λ r. p.says [] r ∙ sym (q.says [] r)), refl)

@@ -11,7 +11,7 @@ ghost use Rattle.lookups.specs.Lookups.{is_shared};
 ghost use Rattle.lookups.specs.State.{some_of, with, no_marks, MarkedBy, KeptBy, Both};
 ghost use Rattle.lookups.specs.Results.{intersections_result};
 
-use layout::{Answer, Found, HyperedgeIndex};
+use layout::{Answer, HyperedgeIndex, Refusal};
 
 // The marks of the members of a list.
 fn member_marks(t: &[u32], ms: &[u32]) -> [bool; 256]
@@ -19,10 +19,8 @@ fn member_marks(t: &[u32], ms: &[u32]) -> [bool; 256]
     ensures { MarkedBy (live_vertices (read limit t.now)) (some_of eqb ms.now) no_marks result }
 {
     let mut marks = [false; 256];
-    let mut i = 0;
-    while i < ms.len() {
+    for i in 0..ms.len() {
         marks::mark(t, ms[i], &mut marks);
-        i += 1;
     }
     marks
 }
@@ -41,10 +39,8 @@ fn keep_common(marks: &mut [bool; 256], others: &[bool; 256])
     requires { length marks.old ≡ vertex_limit }
     ensures { Both others.now marks.old marks.new }
 {
-    let mut k = 0;
-    while k < layout::VERTEX_LIMIT {
+    for k in 0..layout::VERTEX_LIMIT {
         marks[k] = both(marks[k], others[k]);
-        k += 1;
     }
 }
 
@@ -64,19 +60,11 @@ fn shared_marks(t: &[u32], hyperedges: &[u32]) -> [bool; 256]
     ensures { MarkedBy (live_vertices (read limit t.now)) (is_shared (read limit t.now) hyperedges.now) no_marks result }
 {
     let mut marks = [true; 256];
-    let mut i = 0;
-    while i < hyperedges.len() {
-        let f = find::find_hyperedge(t, HyperedgeIndex(hyperedges[i]));
-        match f {
-            Found::Nothing => {
-                let none = [false; 256];
-                return none;
-            }
-            Found::At(j) => {
-                keep_members(t, j, &mut marks);
-                i += 1;
-            }
-        }
+    for i in 0..hyperedges.len() {
+        let Some(j) = find::find_hyperedge(t, HyperedgeIndex(hyperedges[i])) else {
+            return [false; 256];
+        };
+        keep_members(t, j, &mut marks);
     }
     marks
 }
@@ -87,19 +75,13 @@ fn list_shared(t: &[u32], hyperedges: &[u32], out: &mut [u32]) -> Answer
     ensures { result_of result out.new ≡ intersections_result hyperedges.now out.old (read limit t.now) }
 {
     if hyperedges.len() < 2 {
-        return Answer::TooFewHyperedges;
+        return Err(Refusal::TooFewHyperedges);
     }
-    let f = find::first_missing_hyperedge(t, hyperedges);
-    match f {
-        Found::At(i) => {
-            let e = hyperedges[i];
-            Answer::HyperedgeNotLive(HyperedgeIndex(e))
-        }
-        Found::Nothing => {
-            let marks = shared_marks(t, hyperedges);
-            marks::list_marked(t, &marks, out)
-        }
+    if let Some(i) = find::first_missing_hyperedge(t, hyperedges) {
+        return Err(Refusal::HyperedgeNotLive(HyperedgeIndex(hyperedges[i])));
     }
+    let marks = shared_marks(t, hyperedges);
+    marks::list_marked(t, &marks, out)
 }
 
 // The vertices that every hyperedge of the list has as a member.
@@ -107,7 +89,7 @@ pub fn get_hyperedges_intersections(t: &[u32], hyperedges: &[u32], out: &mut [u3
     ensures { result_of result out.new ≡ on_formed t.now out.old (intersections_result hyperedges.now out.old) }
 {
     if !well_formed::well_formed(t) {
-        return Answer::NotWellFormed;
+        return Err(Refusal::NotWellFormed);
     }
     list_shared(t, hyperedges, out)
 }

@@ -1,4 +1,5 @@
 -- A binary search over f 0, f 1, .., strictly ascending: what lies outside lo and hi is settled. Assumes nothing.
+use Rattle.std.specs.Prelude.{Some, None}
 use mathlib.Core.Path.{◌≡◌, sym, ap, ◌∙◌}
 use mathlib.Core.Logic.{⊎_elim}
 use Prim.Native.Nat.{ℕ, ◌+◌, ◌≤◌, ◌<◌}
@@ -8,7 +9,6 @@ use lib.ListN.{get_or}
 use Rattle.lists.specs.Lists.{tab, Ascending}
 use Rattle.lists.proofs.Cases.{on_below}
 use Rattle.lists.proofs.Tab.{length-tab, getD-tab}
-use Rattle.layout.specs.declared.Found.TheVariants.{At, Nothing}
 use Rattle.layout.specs.Content.{position}
 use Rattle.layout.proofs.Position.{position_here, position-none}
 
@@ -43,10 +43,10 @@ module _ (f : ℕ → ℕ) (n : ℕ) (asc : Ascending (tab f n)) where
     above = λ k m w. ⊎_elim (λ e. omega (arith, ap f e)) (λ q. omega (arith, rising mid k q w)) (eq-or-lt_of_le {n = mid} {m = k} m);
   }
 
-  pub bracket-found : (x mid : ℕ) → mid < n → f mid ≡ x → At mid ≡ position x (tab f n)
+  pub bracket-found : (x mid : ℕ) → mid < n → f mid ≡ x → Some mid ≡ position x (tab f n)
   bracket-found x mid h e = position_here x (tab f n) mid asc (rw length-tab h) (getD-tab f n mid 0 h ∙ e)
 
-pub bracket-none : (f : ℕ → ℕ) (n x lo hi : ℕ) → Bracket f n x lo hi → hi ≤ lo → Nothing ≡ position x (tab f n)
+pub bracket-none : (f : ℕ → ℕ) (n x lo hi : ℕ) → Bracket f n x lo hi → hi ≤ lo → None ≡ position x (tab f n)
 bracket-none f n x lo hi b h = sym (position-none x (tab f n) (λ k l q.
     let l' : k < n = rw length-tab at l in
     let q' : f k ≡ x = sym (getD-tab f n k 0 l') ∙ q in

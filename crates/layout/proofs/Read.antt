@@ -1,4 +1,5 @@
 -- What reading a table's words gives, in terms of the words. Assumes nothing.
+use Rattle.std.specs.Prelude.{Option, Some, None}
 use mathlib.Core.Path.{◌≡◌, sym, ap, ◌∙◌}
 use mathlib.Core.Bool.{true}
 use mathlib.Core.List.{List}
@@ -11,8 +12,6 @@ use Rattle.lists.proofs.Cases.{and_left, and_right}
 use Rattle.lists.proofs.Tab.{map-tab, length-tab, getD-tab}
 use Rattle.lists.proofs.All.{all-at}
 use Rattle.lists.proofs.Ascend.{ascending-at}
-use Rattle.layout.specs.declared.Found.{Found}
-use Rattle.layout.specs.declared.Found.TheVariants.{At, Nothing}
 use Rattle.layout.specs.Content.{vertex_number, hyperedge_number, live_vertices, live_hyperedges, numbered, valid, position}
 use Rattle.layout.specs.Layout.{vertex_size, record_size, vertices_at, hyperedges_at, vertex_word, hyperedge_word, next_vertex_in, vertex_count, hyperedge_count, vertex_at, hyperedge_at, members_at, read}
 use Rattle.layout.specs.WellFormed.{well_formed}
@@ -62,16 +61,16 @@ module _ (L : ℕ) (ws : List ℕ) where
   live-ascends f = rw live-vertices f.vertices-ascend
 
   -- where a search found the number, the record has it
-  column-found : (base step n x i : ℕ) → position x (column ws base step n) ≡ At i → (i < n) × (get_or ws (base + i * step) 0 ≡ x)
+  column-found : (base step n x i : ℕ) → position x (column ws base step n) ≡ Some i → (i < n) × (get_or ws (base + i * step) 0 ≡ x)
   column-found base step n x i e =
       let p = position-found x (column ws base step n) i e in
       let h : i < n = rw length-tab at p.0 in
       (h, sym (getD-tab (λ (k : ℕ). get_or ws (base + k * step) 0) n i 0 h) ∙ p.1)
 
-  pub vertex-found : (x i : ℕ) → position x (live_vertices (read L ws)) ≡ At i → (i < vertex_count ws) × (get_or ws (vertex_word i) 0 ≡ x)
+  pub vertex-found : (x i : ℕ) → position x (live_vertices (read L ws)) ≡ Some i → (i < vertex_count ws) × (get_or ws (vertex_word i) 0 ≡ x)
   vertex-found x i e = column-found vertices_at vertex_size (vertex_count ws) x i (sym (ap (position x) live-vertices) ∙ e)
 
-  pub hyperedge-found : (x j : ℕ) → position x (live_hyperedges (read L ws)) ≡ At j → (j < hyperedge_count ws) × (get_or ws (hyperedge_word L j) 0 ≡ x)
+  pub hyperedge-found : (x j : ℕ) → position x (live_hyperedges (read L ws)) ≡ Some j → (j < hyperedge_count ws) × (get_or ws (hyperedge_word L j) 0 ≡ x)
   hyperedge-found x j e = column-found hyperedges_at (record_size L) (hyperedge_count ws) x j (sym (ap (position x) live-hyperedges) ∙ e)
 
 -- ---- for `search`: n is what `vertex_count` found, m what `hyperedge_count` found
@@ -80,7 +79,7 @@ module _ (L : ℕ) (ws : List ℕ) (n : ℕ) (f : Formed L ws) (e : n ≡ vertex
   pub vertices-rise : Ascending (column ws vertices_at vertex_size n)
   vertices-rise = rw e f.vertices-ascend
 
-  pub vertex-searched : (x : ℕ) (p : Found) → p ≡ position x (column ws vertices_at vertex_size n) → p ≡ position x (live_vertices (read L ws))
+  pub vertex-searched : (x : ℕ) (p : Option ℕ) → p ≡ position x (column ws vertices_at vertex_size n) → p ≡ position x (live_vertices (read L ws))
   vertex-searched x p q = q ∙ rw (e, live-vertices L ws)
 
   -- as many vertices live as numbers were given: x is its own place
@@ -91,15 +90,15 @@ module _ (L : ℕ) (ws : List ℕ) (n : ℕ) (f : Formed L ws) (e : n ≡ vertex
         let h' : i < vertex_count ws = rw l at h in
         rw (getD-tab (λ (k : ℕ). get_or ws (vertex_word k) 0) (vertex_count ws) i 0 h', l) (omega (arith, f.vertices-below i h'))
 
-    pub vertex-dense : place < n → At place ≡ position x (live_vertices (read L ws))
-    vertex-dense h = ap At p ∙ rw live-vertices (dense-found x (vertex_column ws) f.vertices-ascend below (rw (length-tab, ← e, ← p) h))
+    pub vertex-dense : place < n → Some place ≡ position x (live_vertices (read L ws))
+    vertex-dense h = ap Some p ∙ rw live-vertices (dense-found x (vertex_column ws) f.vertices-ascend below (rw (length-tab, ← e, ← p) h))
 
-    pub vertex-over : n ≤ place → Nothing ≡ position x (live_vertices (read L ws))
+    pub vertex-over : n ≤ place → None ≡ position x (live_vertices (read L ws))
     vertex-over h = rw live-vertices (dense-none x (vertex_column ws) f.vertices-ascend below (rw (length-tab, ← e, ← p) h))
 
 module _ (L : ℕ) (ws : List ℕ) (m : ℕ) (f : Formed L ws) (e : m ≡ hyperedge_count ws) where
   pub hyperedges-rise : Ascending (column ws hyperedges_at (record_size L) m)
   hyperedges-rise = rw e f.hyperedges-ascend
 
-  pub hyperedge-searched : (x : ℕ) (p : Found) → p ≡ position x (column ws hyperedges_at (record_size L) m) → p ≡ position x (live_hyperedges (read L ws))
+  pub hyperedge-searched : (x : ℕ) (p : Option ℕ) → p ≡ position x (column ws hyperedges_at (record_size L) m) → p ≡ position x (live_hyperedges (read L ws))
   hyperedge-searched x p q = q ∙ rw (e, live-hyperedges L ws)

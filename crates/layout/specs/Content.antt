@@ -1,9 +1,7 @@
 -- What a table holds, apart from how its words lie. Assumes nothing.
-use Rattle.std.specs.Prelude.{Bool, cond, List, [], ◌∷◌, map, ℕ, zero, suc, eqb}
+use Rattle.std.specs.Prelude.{Bool, cond, List, [], ◌∷◌, map, ℕ, zero, suc, eqb, Option, Some, None}
 use Rattle.lists.specs.Tests.{◌and◌}
 use Rattle.lists.specs.Lists.{all, memb, filter, is_below, ascending}
-use Rattle.layout.specs.declared.Found.{Found}
-use Rattle.layout.specs.declared.Found.TheVariants.{At, Nothing}
 
 -- a sample, aliquot or pool
 pub record Vertex : Type 0 where
@@ -81,14 +79,14 @@ unfoldable pub hyperedges_of : Table → ℕ → List Hyperedge
 hyperedges_of t v = filter (lists v) t.hyperedges
 
 -- the place of x in a list, counted from i
-unfoldable pub position_from : ℕ → ℕ → List ℕ → Found
-position_from i x [] = Nothing
-position_from i x (y ∷ ys) = cond (eqb x y) (At i) (position_from (suc i) x ys)
+unfoldable pub position_from : ℕ → ℕ → List ℕ → Option ℕ
+position_from i x [] = None
+position_from i x (y ∷ ys) = cond (eqb x y) (Some i) (position_from (suc i) x ys)
 
-unfoldable pub position : ℕ → List ℕ → Found
+unfoldable pub position : ℕ → List ℕ → Option ℕ
 position x xs = position_from zero x xs
 
 -- the place that a search found
-abbrev pub place : Found → ℕ
-place (At i) = i
-place Nothing = 0
+abbrev pub place : Option ℕ → ℕ
+place (Some i) = i
+place None = 0

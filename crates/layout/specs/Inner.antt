@@ -1,14 +1,12 @@
 -- What inner functions are stated with: the parts of the test of a table, the first of a list that is not live, a list's step by its place.
 -- Assumes nothing.
-use Rattle.std.specs.Prelude.{◌≡◌, true, cond, List, [], ◌∷◌, ℕ, ◌+◌, ◌*◌, ◌≤◌, ◌<◌, zero, suc, length, get_or}
+use Rattle.std.specs.Prelude.{◌≡◌, true, cond, List, [], ◌∷◌, ℕ, ◌+◌, ◌*◌, ◌≤◌, ◌<◌, zero, suc, length, get_or, Option, Some, None}
 use Rattle.lists.specs.Tests.{◌and◌, every}
 use Rattle.lists.specs.Lists.{tab, Ascending}
 use Rattle.layout.specs.Content.{valid, is_live}
 use Rattle.layout.specs.Layout.{vertex_limit, hyperedge_limit, vertex_size, record_size, vertices_at, hyperedges_at, size, vertex_word, next_vertex_in, vertex_count, hyperedge_count, count_at, read}
 use Rattle.layout.specs.WellFormed.{record_shaped, unused_vertices, unused_hyperedges}
 use Rattle.layout.specs.Steps.{Step}
-use Rattle.layout.specs.declared.Found.{Found}
-use Rattle.layout.specs.declared.Found.TheVariants.{At, Nothing}
 
 -- what `shaped` says, part by part
 pub record Shaped (L : ℕ) (ws : List ℕ) : Type 0 where
@@ -40,11 +38,11 @@ pub record Formed (L : ℕ) (ws : List ℕ) : Type 0 where
   pub content : valid (read L ws) ≡ true
 
 -- the place of the first of the list that is not live, counted from i
-unfoldable pub first_missing_from : ℕ → List ℕ → List ℕ → Found
-first_missing_from i live [] = Nothing
-first_missing_from i live (x ∷ xs) = cond (is_live live x) (first_missing_from (suc i) live xs) (At i)
+unfoldable pub first_missing_from : ℕ → List ℕ → List ℕ → Option ℕ
+first_missing_from i live [] = None
+first_missing_from i live (x ∷ xs) = cond (is_live live x) (first_missing_from (suc i) live xs) (Some i)
 
-unfoldable pub first_missing : List ℕ → List ℕ → Found
+unfoldable pub first_missing : List ℕ → List ℕ → Option ℕ
 first_missing live xs = first_missing_from zero live xs
 
 -- the step at place i of a list

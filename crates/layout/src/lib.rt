@@ -33,10 +33,9 @@ pub struct VertexIndex(pub u32);
 #[derive(Clone, Copy)]
 pub struct HyperedgeIndex(pub u32);
 
-// What an entry point answers: a case for each row of the table of answer numbers, in its order.
+// Why an entry point refuses: a case for each row of the table of answer numbers, in its order.
 #[derive(Clone, Copy)]
-pub enum Answer {
-    Done(usize),
+pub enum Refusal {
     NotWellFormed,
     NoMembers(u32),
     VertexNotLive(VertexIndex),
@@ -58,6 +57,9 @@ pub enum Answer {
     EqualNeighbours(VertexIndex),
 }
 
+// What an entry point answers: done, with a detail, or refused.
+pub type Answer = Result<usize, Refusal>;
+
 // The rules' number and detail of an answer.
 #[repr(C)]
 #[derive(Clone, Copy)]
@@ -66,30 +68,32 @@ pub struct Reply {
     pub detail: u64,
 }
 
-pub fn reply_of(a: Answer) -> Reply
-    ensures { (result.number ≡ number a) × (result.detail ≡ detail a) }
-{
-    match a {
-        Answer::Done(d) => reply_with(0, d as u64),
-        Answer::NotWellFormed => reply_with(1, 0),
-        Answer::NoMembers(d) => reply_with(2, d as u64),
-        Answer::VertexNotLive(v) => reply_with(3, v.0 as u64),
-        Answer::HyperedgeNotLive(e) => reply_with(4, e.0 as u64),
-        Answer::SameMembers(e) => reply_with(5, e.0 as u64),
-        Answer::TooManyMembers(k) => reply_with(6, k as u64),
-        Answer::Full => reply_with(7, 0),
-        Answer::NumbersSpent => reply_with(8, 0),
-        Answer::ClosedWalk => reply_with(9, 0),
-        Answer::TooFewHyperedges => reply_with(10, 0),
-        Answer::NoRoom(k) => reply_with(11, k as u64),
-        Answer::BadText(line) => reply_with(12, line as u64),
-        Answer::SameVertex(v) => reply_with(13, v.0 as u64),
-        Answer::SideBySide(e) => reply_with(14, e.0 as u64),
-        Answer::BadRecord(i) => reply_with(15, i as u64),
-        Answer::NotReviewed(v) => reply_with(17, v.0 as u64),
-        Answer::UpstreamHeld(v) => reply_with(18, v.0 as u64),
-        Answer::BadOrder(i) => reply_with(19, i as u64),
-        Answer::EqualNeighbours(v) => reply_with(20, v.0 as u64),
+impl From<Answer> for Reply {
+    ghost from_gives = { λ a r. (r.number ≡ number a) × (r.detail ≡ detail a) };
+
+    fn from(a: Answer) -> Self {
+        match a {
+            Ok(d) => reply_with(0, d as u64),
+            Err(Refusal::NotWellFormed) => reply_with(1, 0),
+            Err(Refusal::NoMembers(d)) => reply_with(2, d as u64),
+            Err(Refusal::VertexNotLive(v)) => reply_with(3, v.0 as u64),
+            Err(Refusal::HyperedgeNotLive(e)) => reply_with(4, e.0 as u64),
+            Err(Refusal::SameMembers(e)) => reply_with(5, e.0 as u64),
+            Err(Refusal::TooManyMembers(k)) => reply_with(6, k as u64),
+            Err(Refusal::Full) => reply_with(7, 0),
+            Err(Refusal::NumbersSpent) => reply_with(8, 0),
+            Err(Refusal::ClosedWalk) => reply_with(9, 0),
+            Err(Refusal::TooFewHyperedges) => reply_with(10, 0),
+            Err(Refusal::NoRoom(k)) => reply_with(11, k as u64),
+            Err(Refusal::BadText(line)) => reply_with(12, line as u64),
+            Err(Refusal::SameVertex(v)) => reply_with(13, v.0 as u64),
+            Err(Refusal::SideBySide(e)) => reply_with(14, e.0 as u64),
+            Err(Refusal::BadRecord(i)) => reply_with(15, i as u64),
+            Err(Refusal::NotReviewed(v)) => reply_with(17, v.0 as u64),
+            Err(Refusal::UpstreamHeld(v)) => reply_with(18, v.0 as u64),
+            Err(Refusal::BadOrder(i)) => reply_with(19, i as u64),
+            Err(Refusal::EqualNeighbours(v)) => reply_with(20, v.0 as u64),
+        }
     }
 }
 
@@ -97,13 +101,6 @@ fn reply_with(number: u32, detail: u64) -> Reply
     ensures { (result.number ≡ number) × (result.detail ≡ detail) }
 {
     Reply { number, detail }
-}
-
-// What a search finds: a place, counted from 0.
-#[derive(Clone, Copy)]
-pub enum Found {
-    At(usize),
-    Nothing,
 }
 
 pub fn wide(x: u32) -> usize

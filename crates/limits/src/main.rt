@@ -4,33 +4,29 @@
 use add_hyperedge::add_hyperedge;
 use add_vertex::add_vertex;
 use hypergraph::{clear, is_empty};
-use layout::{Answer, HyperedgeIndex, VertexIndex};
+use layout::{Answer, HyperedgeIndex, Reply, VertexIndex};
 use remove_hyperedge::remove_hyperedge;
 use remove_vertex::remove_vertex;
 use std::io;
 use update_hyperedge_vertices::update_hyperedge_vertices as update;
 
 fn say(rt: &impl Print, what: &str, a: Answer) -> io::Result<()> {
-    let r = layout::reply_of(a);
+    let r = Reply::from(a);
     println!(rt; "{what}: {} {}", r.number, r.detail)
 }
 
 // Adds vertices until 256 are live.
 fn add_vertices(t: &mut [u32]) {
-    let mut i = 0;
-    while i < layout::VERTEX_LIMIT {
-        add_vertex(t, 7);
-        i += 1;
+    for _ in 0..layout::VERTEX_LIMIT {
+        let _ = add_vertex(t, 7);
     }
 }
 
 // Adds the lists 255, 0 and 255, 1 and so on, of weight 5, until 192 hyperedges are live.
 fn add_hyperedges(t: &mut [u32]) {
-    let mut j: u32 = 0;
-    while j < layout::HYPEREDGE_LIMIT as u32 {
+    for j in 0u32..layout::HYPEREDGE_LIMIT as u32 {
         let list = [255, j];
-        add_hyperedge(t, &list, 5);
-        j += 1;
+        let _ = add_hyperedge(t, &list, 5);
     }
 }
 

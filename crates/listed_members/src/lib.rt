@@ -14,10 +14,8 @@ pub fn mark_members(t: &[u32], ms: &[u32], marks: &mut [bool; 256])
     requires marks_len { length marks.old ≡ vertex_limit }
     ensures { MarkedBy (live_vertices (read limit t.now)) (some_of eqb ms.now) marks.old marks.new }
 {
-    let mut i = 0;
-    while i < ms.len() {
+    for i in 0..ms.len() {
         marks::mark(t, ms[i], marks);
-        i += 1;
     }
 }
 
@@ -40,10 +38,8 @@ pub fn listed_marks(t: &[u32], front: usize, back: usize) -> [bool; 256]
 {
     let m = layout::hyperedge_count(t);
     let mut marks = [false; 256];
-    let mut j = 0;
-    while j < m {
+    for j in 0..m {
         mark_record(t, j, front, back, &mut marks);
-        j += 1;
     }
     marks
 }

@@ -10,17 +10,13 @@ ghost use Rattle.layout.specs.WellFormed.{record_shaped};
 ghost use Rattle.layout.specs.Inner.{column};
 ghost use Rattle.formed.specs.Records.{record_live};
 
-use layout::Found;
-
 // A copy of the first n vertex numbers, for `place`: a hint, of which nothing is promised.
 fn copy_numbers(t: &[u32], n: usize) -> [u32; 256]
     requires { (length t.now ≡ size limit) × (n ≤ vertex_limit) }
 {
     let mut numbers = [4294967295; 256];
-    let mut i = 0;
-    while i < n {
+    for i in 0..n {
         numbers[i] = layout::vertex_number(t, i);
-        i += 1;
     }
     numbers
 }
@@ -47,13 +43,11 @@ fn guess_eighths(numbers: &[u32; 256], ms: &[u32], eighths: &mut [u32; 256])
     let e = numbers[160];
     let f = numbers[192];
     let g = numbers[224];
-    let mut i = 0;
-    while i < ms.len() {
+    for i in 0..ms.len() {
         let x = ms[i];
         let low = reached(a, x) + reached(b, x) + reached(c, x);
         let high = reached(d, x) + reached(e, x) + reached(f, x) + reached(g, x);
         eighths[i] = low + high;
-        i += 1;
     }
 }
 
@@ -63,6 +57,7 @@ fn place(numbers: &[u32; 256], eighth: u32, x: u32) -> usize
 {
     let mut p = eighth as usize % 8 * 32;
     let mut half = 16;
+    // It counts no index: half is halved each turn.
     while 0 < half {
         if numbers[p + half] <= x {
             p += half;
@@ -84,11 +79,7 @@ fn is_live(t: &[u32], n: usize, numbers: &[u32; 256], eighth: u32, x: u32) -> bo
             return true;
         }
     }
-    let f = find::find_number(t, layout::VERTICES_AT, layout::VERTEX_SIZE, n, x);
-    match f {
-        Found::Nothing => false,
-        Found::At(_) => true,
-    }
+    find::find_number(t, layout::VERTICES_AT, layout::VERTEX_SIZE, n, x).is_some()
 }
 
 fn members_live(
@@ -105,12 +96,10 @@ fn members_live(
 {
     let ms = layout::members(t, j);
     guess_eighths(numbers, ms, eighths);
-    let mut i = 0;
-    while i < ms.len() {
+    for i in 0..ms.len() {
         if !is_live(t, n, numbers, eighths[i], ms[i]) {
             return false;
         }
-        i += 1;
     }
     true
 }
@@ -123,12 +112,10 @@ pub fn all_members_live(t: &[u32], n: usize, m: usize) -> bool
 {
     let numbers = copy_numbers(t, n);
     let mut eighths = [0u32; 256];
-    let mut j = 0;
-    while j < m {
+    for j in 0..m {
         if !members_live(t, n, &numbers, &mut eighths, j) {
             return false;
         }
-        j += 1;
     }
     true
 }

@@ -1,10 +1,11 @@
 -- What each look writes and answers, from what its sheet's function wrote and answered. Assumes nothing.
+use Rattle.std.specs.Prelude.{Ok, Err}
 use mathlib.Core.Path.{◌≡◌, sym, ap, ◌∙◌}
 use mathlib.Core.Bool.{Bool, true, false, not}
 use mathlib.Core.List.{List}
 use Prim.Native.Nat.{ℕ}
 use borrow.Author.Tests.{not-false}
-use Rattle.layout.specs.declared.Answer.TheVariants.{Done, NotWellFormed}
+use Rattle.layout.specs.declared.Refusal.TheVariants.{NotWellFormed}
 use Rattle.layout.specs.declared.VertexIndex.{VertexIndex}
 use Rattle.layout.specs.declared.HyperedgeIndex.{HyperedgeIndex}
 use Rattle.layout.specs.Content.{Table}
@@ -25,15 +26,15 @@ use Rattle.look_sheets.specs.Looks.{seen, look_result}
 
 module _ (look : Look) (list : List ℕ) (plain : Bool) (ss : List ℕ) (p : Page) (t : Table) where
   module _ (c : List ℕ) (q : ℕ) where
-    pub seen-check : look ≡ Check → page c q ≡ write (check_sheet plain t) p → result_of (Done q) c ≡ seen look list plain ss p t
+    pub seen-check : look ≡ Check → page c q ≡ write (check_sheet plain t) p → result_of (Ok q) c ≡ seen look list plain ss p t
     unfolding seen
     seen-check h e = rw h (ap paged e)
 
-    pub seen-show : look ≡ Show → page c q ≡ write (show_sheet plain ss t) p → result_of (Done q) c ≡ seen look list plain ss p t
+    pub seen-show : look ≡ Show → page c q ≡ write (show_sheet plain ss t) p → result_of (Ok q) c ≡ seen look list plain ss p t
     unfolding seen
     seen-show h e = rw h (ap paged e)
 
-    pub seen-states : look ≡ States → page c q ≡ write (states_sheet plain ss t) p → result_of (Done q) c ≡ seen look list plain ss p t
+    pub seen-states : look ≡ States → page c q ≡ write (states_sheet plain ss t) p → result_of (Ok q) c ≡ seen look list plain ss p t
     unfolding seen
     seen-states h e = rw h (ap paged e)
 
@@ -62,7 +63,7 @@ module _ (ws ss : List ℕ) (r : Bool) (e : r ≡ desk_fits (desk_of ws ss)) whe
   fits-by-desk h = sym e ∙ not-false r h
 
   module _ (look : Look) (list : List ℕ) (plain : Bool) (b : List ℕ) (at : ℕ) where
-    pub look-misfit : not r ≡ true → result_of NotWellFormed b ≡ look_result look list plain (desk_of ws ss) (page b at)
+    pub look-misfit : not r ≡ true → result_of (Err NotWellFormed) b ≡ look_result look list plain (desk_of ws ss) (page b at)
     unfolding look_result
     look-misfit h = on-misfit ws ss r e b (seen look list plain ss (page b at)) h
 

@@ -13,7 +13,7 @@ use check_sheets::put_check;
 use commands::Look;
 use desk_fits::desk_fits;
 use desk_sheets::{judge_order, put_show, put_states, show_transfer, show_tube};
-use layout::Answer;
+use layout::{Answer, Refusal};
 use path_sheets::put_path;
 
 fn look_formed(
@@ -31,12 +31,12 @@ fn look_formed(
     ensures { result_of result out.new ≡ seen look list.now plain s.now (page out.old at) (read limit t.now) }
 {
     match look {
-        Look::Check => Answer::Done(put_check(t, plain, out, at)),
-        Look::Show => Answer::Done(put_show(t, s, plain, out, at)),
+        Look::Check => Ok(put_check(t, plain, out, at)),
+        Look::Show => Ok(put_show(t, s, plain, out, at)),
         Look::ShowTube(v) => show_tube(t, s, v, plain, out, at),
         Look::ShowTransfer(e) => show_transfer(t, e, plain, out, at),
         Look::Path(a, b) => put_path(t, a, b, plain, out, at),
-        Look::States => Answer::Done(put_states(t, s, plain, out, at)),
+        Look::States => Ok(put_states(t, s, plain, out, at)),
         Look::Order => judge_order(t, s, list, plain, out, at),
     }
 }
@@ -54,7 +54,7 @@ pub fn put_look(
     ensures { result_of result out.new ≡ look_result look list.now plain (desk_of t.now s.now) (page out.old at) }
 {
     if !desk_fits(t, s) {
-        return Answer::NotWellFormed;
+        return Err(Refusal::NotWellFormed);
     }
     look_formed(t, s, look, list, plain, out, at)
 }

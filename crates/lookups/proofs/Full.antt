@@ -1,4 +1,5 @@
 -- Laws of a full listing that is laid out by counts and filled in place by place. Assumes nothing.
+use Rattle.std.specs.Prelude.{Option, Some, None, Ok, Err}
 use mathlib.Core.Logic.{◌⊎◌, inl, inr, ⊎_elim}
 use mathlib.Core.Path.{◌≡◌, refl, sym, ap, ap₂, ◌∙◌}
 use mathlib.Core.Bool.{Bool, true, false, not, cond, ◌||◌}
@@ -16,9 +17,7 @@ use Rattle.lists.proofs.Cases.{on, on_same, on_below}
 use Rattle.lists.proofs.Flat.{flat-snoc}
 use Rattle.lists.proofs.Chosen.{over-length}
 use Rattle.lists.proofs.Ascend.{ascending-apart}
-use Rattle.layout.specs.declared.Found.{Found}
-use Rattle.layout.specs.declared.Found.TheVariants.{At, Nothing}
-use Rattle.layout.specs.declared.Answer.TheVariants.{Done, NoRoom}
+use Rattle.layout.specs.declared.Refusal.TheVariants.{NoRoom}
 use Rattle.layout.specs.Content.{Hyperedge, Table, live_vertices, position}
 use Rattle.layout.specs.Layout.{limit, vertex_limit, vertex_count, read}
 use Rattle.layout.specs.Inner.{Formed}
@@ -116,14 +115,14 @@ module _ {live : List ℕ} {whole left : ℕ → List ℕ} {nexts out : List ℕ
     inside : (i : ℕ) → i < length live → get_or live i 0 ≡ x → get_or nexts i 0 < offset live whole (suc i)
     inside i h w = omega (arith, f.room i h, ap length (here (get_or live i 0) w))
 
-    pub filling-room : (i : ℕ) → position x live ≡ At i → get_or nexts i 0 < length out
+    pub filling-room : (i : ℕ) → position x live ≡ Some i → get_or nexts i 0 < length out
     filling-room i q = let r = position-found x live i q in omega (arith, inside i r.0 r.1, offset-upto live whole (length live) (suc i) r.0 (omega arith), f.fits)
 
     pub filling-one : {nexts' out' : List ℕ} → nexts' ≡ tallying (position x live) nexts → out' ≡ placing (position x live) nexts e out → Filling live whole left' nexts' out'
     filling-one {nexts'} {out'} a b = go (position x live) refl a b
       where
-        go : (p : Found) → position x live ≡ p → nexts' ≡ tallying p nexts → out' ≡ placing p nexts e out → Filling live whole left' nexts' out'
-        go Nothing q a b = rw (a, b) (record {
+        go : (p : Option ℕ) → position x live ≡ p → nexts' ≡ tallying p nexts → out' ≡ placing p nexts e out → Filling live whole left' nexts' out'
+        go None q a b = rw (a, b) (record {
           sized = f.sized;
           fits = f.fits;
           low = f.low;
@@ -131,7 +130,7 @@ module _ {live : List ℕ} {whole left : ℕ → List ℕ} {nexts out : List ℕ
           todo = λ k h. f.todo k h ∙ skip (get_or live k 0) (position-missing x live q k h);
           done = f.done;
         })
-        go (At i) q a b =
+        go (Some i) q a b =
             let r = position-found x live i q in
             let at : ℕ = get_or nexts i 0 in
             let set_here : get_or (set nexts i (at + 1)) i 0 ≡ at + 1 = get_or-set_same nexts i (at + 1) 0 (omega (arith, f.sized, r.0)) in
@@ -162,9 +161,9 @@ module _ {live : List ℕ} {whole left : ℕ → List ℕ} {nexts out : List ℕ
     pub beyond-one : {out' : List ℕ} → out' ≡ placing (position x live) nexts e out → Beyond (offset live whole (length live)) out out'
     beyond-one {out'} b = go (position x live) refl b
       where
-        go : (p : Found) → position x live ≡ p → out' ≡ placing p nexts e out → Beyond (offset live whole (length live)) out out'
-        go Nothing q b = rw b (beyond-same _ out)
-        go (At i) q b =
+        go : (p : Option ℕ) → position x live ≡ p → out' ≡ placing p nexts e out → Beyond (offset live whole (length live)) out out'
+        go None q b = rw b (beyond-same _ out)
+        go (Some i) q b =
             let r = position-found x live i q in
             rw b (record {
               same = length-set out (get_or nexts i 0) e;
@@ -183,14 +182,14 @@ module _ {live : List ℕ} {whole left : ℕ → List ℕ} {nexts out old : List
   fill-no s a d = (filling-as f s a d, rw d b)
 
 -- the same for `search`: p is what `find_vertex` returned
-module _ (L : ℕ) (ws : List ℕ) (x e : ℕ) (nexts out : List ℕ) (p : Found) (q : p ≡ position x (live_vertices (read L ws))) where
-  pub put-none : p ≡ Nothing → out ≡ placing (position x (live_vertices (read L ws))) nexts e out
+module _ (L : ℕ) (ws : List ℕ) (x e : ℕ) (nexts out : List ℕ) (p : Option ℕ) (q : p ≡ position x (live_vertices (read L ws))) where
+  pub put-none : p ≡ None → out ≡ placing (position x (live_vertices (read L ws))) nexts e out
   put-none h = rw (← q, h)
 
-  pub put_one : (k : ℕ) → p ≡ At k → set out (get_or nexts k 0) e ≡ placing (position x (live_vertices (read L ws))) nexts e out
+  pub put_one : (k : ℕ) → p ≡ Some k → set out (get_or nexts k 0) e ≡ placing (position x (live_vertices (read L ws))) nexts e out
   put_one k h = rw (← q, h)
 
-  pub put_in : ((k : ℕ) → position x (live_vertices (read L ws)) ≡ At k → get_or nexts k 0 < length out) → (k : ℕ) → p ≡ At k → get_or nexts k 0 < length out
+  pub put_in : ((k : ℕ) → position x (live_vertices (read L ws)) ≡ Some k → get_or nexts k 0 < length out) → (k : ℕ) → p ≡ Some k → get_or nexts k 0 < length out
   put_in r k h = r k (sym q ∙ h)
 
 -- with nothing left, the listing is written
@@ -496,7 +495,7 @@ module _ (dir : Direction) (v : ℕ) (ws : List ℕ) (f : Formed limit ws) (n : 
       ∙ offset-all (live_vertices (read limit ws)) (connecting dir (read limit ws) v) ∙ ap length (full_is dir (read limit ws) v)
 
   module _ (c : ℕ) (q : c ≡ start counts n) (out : List ℕ) where
-    pub full-over : length out < c → result_of (NoRoom c) out ≡ listed (full_adjacent dir v (read limit ws)) out
+    pub full-over : length out < c → result_of (Err (NoRoom c)) out ≡ listed (full_adjacent dir v (read limit ws)) out
     full-over h = listed-over (full_adjacent dir v (read limit ws)) out c (q ∙ full-words) h
 
     pub full-room : c ≤ length out → start counts n ≤ length out
@@ -510,7 +509,7 @@ module _ (dir : Direction) (v : ℕ) (ws : List ℕ) (f : Formed limit ws) (n : 
     pub full-done : (nexts heads nexts' exit : List ℕ) → c ≤ length out → Headed (live_vertices (read limit ws)) counts out n nexts heads
         → Filling (live_vertices (read limit ws)) (connecting dir (read limit ws) v) nothing nexts' exit
         → Beyond (offset (live_vertices (read limit ws)) (connecting dir (read limit ws) v) (length (live_vertices (read limit ws)))) heads exit
-        → result_of (Done c) exit ≡ listed (full_adjacent dir v (read limit ws)) out
+        → result_of (Ok c) exit ≡ listed (full_adjacent dir v (read limit ws)) out
     full-done nexts heads nexts' exit h d g b =
         let total : start counts n ≡ offset (live_vertices (read limit ws)) (connecting dir (read limit ws) v) (length (live_vertices (read limit ws))) =
         ap (start counts) live-is ∙ start_is t (live-fit limit ws f) (length (live_vertices (read limit ws))) (omega arith) in

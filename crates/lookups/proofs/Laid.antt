@@ -7,7 +7,7 @@ use native.Mathlib.Nat.{mul-le-mul_right, le_antisymm}
 use native.Mathlib.Numerals.{add-one}
 use native.Mathlib.Omega.{arith}
 use lib.Dec.{eqb}
-use lib.ListN.{length, get_or, take, drop, set, replicate, length-set, length-append, length-drop, length-replicate, get_or-replicate}
+use lib.ListN.{length, get_or, take, drop, set, replicate, length-set, length-append, length-drop, length-replicate}
 use lib.Seq.{drop-cons, take-suc, take_all, length-take-le}
 use borrow.Author.Tests.{eq-eqb, ne_eqb, not-true, not-false}
 use Rattle.lists.specs.Tests.{◌and◌}
@@ -52,14 +52,6 @@ module _ {xs out₀ out : List ℕ} {i : ℕ} (c : Copied xs out₀ i out) where
 
   pub copied-end : length xs ≤ i → out ≡ over xs out₀
   copied-end h = c.wrote ∙ ap (λ (w : List ℕ). over w out₀) (take_all i xs h)
-
--- one word k times
-module _ (k x : ℕ) {out₀ out : List ℕ} {i : ℕ} (c : Copied (replicate k x) out₀ i out) where
-  pub repeated-more : i < k → k ≤ length out₀ → Copied (replicate k x) out₀ (i + 1) (set out i x)
-  repeated-more h l = copied_more c x (sym (get_or-replicate k i x 0 h)) (rw length-replicate h) (rw length-replicate l)
-
-  pub repeated-end : k ≤ i → out ≡ over (replicate k x) out₀
-  repeated-end h = copied-end c (rw length-replicate h)
 
 -- ---- a record's list, where it holds v: r is what `holds` found, and the code tested `!r`
 

@@ -1,4 +1,5 @@
 -- Laws of loops that mark, and of what they leave marked. Assumes nothing.
+use Rattle.std.specs.Prelude.{Option, Some, None}
 use mathlib.Core.Path.{◌≡◌, refl, sym, ap, ◌∙◌}
 use mathlib.Core.Bool.{Bool, true, false, not, ◌||◌, or_assoc}
 use mathlib.Core.List.{List, [], ◌∷◌}
@@ -12,8 +13,6 @@ use borrow.Author.Tests.{eq-eqb, ne_eqb}
 use Rattle.lists.specs.Tests.{◌and◌}
 use Rattle.lists.specs.Lists.{any, memb, filter}
 use Rattle.lists.proofs.Cases.{on_same, or_right, or-false, or-absorb, and-true, and-false-left, and-false-right, eqb_comm}
-use Rattle.layout.specs.declared.Found.{Found}
-use Rattle.layout.specs.declared.Found.TheVariants.{At, Nothing}
 use Rattle.layout.specs.Content.{live_vertices, position}
 use Rattle.layout.specs.Layout.{vertex_limit, hyperedge_at, members_at, read}
 use Rattle.layout.specs.Inner.{Formed}
@@ -32,9 +31,9 @@ use Rattle.lookups.specs.State.{ends_of, some_of, with, is_other, no_marks, Mark
 
 -- ---- one mark more
 
-marking-length : (p : Found) (marks : List Bool) → length (marking p marks) ≡ length marks
-marking-length (At i) marks = length-set marks i true
-marking-length Nothing marks = refl
+marking-length : (p : Option ℕ) (marks : List Bool) → length (marking p marks) ≡ length marks
+marking-length (Some i) marks = length-set marks i true
+marking-length None marks = refl
 
 -- new is what `mark` left, of the number x
 pub mark-one : (L : ℕ) (ws : List ℕ) (x : ℕ) {old new : List Bool} → Formed L ws → length old ≡ vertex_limit

@@ -1,4 +1,5 @@
 -- Laws of the loops that keep the marks of the vertices that several hyperedges share. Assumes nothing.
+use Rattle.std.specs.Prelude.{Option, Some, None, Err}
 use mathlib.Core.Logic.{⊎_elim}
 use mathlib.Core.Path.{◌≡◌, refl, sym, ap, ◌∙◌}
 use mathlib.Core.Bool.{Bool, true, false, ◌||◌}
@@ -16,9 +17,7 @@ use Rattle.lists.specs.Lists.{all, any, memb, tab}
 use Rattle.lists.proofs.Cases.{clash, on_same, test-ext, and_left, and_right, and_both, and-false-left, and-false-right, and-true, and_assoc, or-true, or_right, or-false-left, or-false-right, eqb_comm}
 use Rattle.lists.proofs.Tab.{getD-tab, length-tab}
 use Rattle.lists.proofs.Ascend.{ascending-apart}
-use Rattle.layout.specs.declared.Found.{Found}
-use Rattle.layout.specs.declared.Found.TheVariants.{At, Nothing}
-use Rattle.layout.specs.declared.Answer.TheVariants.{TooFewHyperedges}
+use Rattle.layout.specs.declared.Refusal.TheVariants.{TooFewHyperedges}
 use Rattle.layout.specs.Content.{Hyperedge, hyperedge_number, live_vertices, live_hyperedges, lists, position}
 use Rattle.layout.specs.Layout.{vertex_limit, hyperedge_count, hyperedge_word, hyperedge_at, members_at, read}
 use Rattle.layout.specs.Inner.{Formed, hyperedge_column, first_missing}
@@ -155,12 +154,12 @@ dead-member y x (e ∷ es) h =
     rw (and-false-left (eqb e.number x) (memb y e.members) (eqb_comm e.number x ∙ or-false-left (eqb x e.number) _ h)) (dead-member y x es (or-false-right (eqb x e.number) _ h))
 
 -- p is what `find_hyperedge` returned
-module _ (L : ℕ) (ws : List ℕ) (x : ℕ) (p : Found) (e : p ≡ position x (live_hyperedges (read L ws))) where
-  pub no_member : p ≡ Nothing → (y : ℕ) → has_member (read L ws) y x ≡ false
+module _ (L : ℕ) (ws : List ℕ) (x : ℕ) (p : Option ℕ) (e : p ≡ position x (live_hyperedges (read L ws))) where
+  pub no_member : p ≡ None → (y : ℕ) → has_member (read L ws) y x ≡ false
   unfolding has_member
   no_member h y = dead-member y x (read L ws).hyperedges (missing-dead x (live_hyperedges (read L ws)) (sym e ∙ h))
 
-  module _ (f : Formed L ws) (j : ℕ) (h : p ≡ At j) where
+  module _ (f : Formed L ws) (j : ℕ) (h : p ≡ Some j) where
     pub found_in : j < hyperedge_count ws
     found_in = (hyperedge-found L ws x j (sym e ∙ h)).0
 
@@ -186,7 +185,7 @@ module _ (L : ℕ) (ws : List ℕ) (x : ℕ) (p : Found) (e : p ≡ position x (
 -- ---- 10, then 4, by what the code found
 
 module _ (xs out : List ℕ) (r : Result) where
-  pub too_few_lem : length xs < 2 → result_of TooFewHyperedges out ≡ on_several xs out r
+  pub too_few_lem : length xs < 2 → result_of (Err TooFewHyperedges) out ≡ on_several xs out r
   unfolding on_several
   too_few_lem h = rw (lt-ltb (length xs) 2 h)
 
@@ -194,18 +193,18 @@ module _ (xs out : List ℕ) (r : Result) where
   unfolding on_several
   several h = rw (le-ltb (length xs) 2 h)
 
-module _ (L : ℕ) (ws xs out : List ℕ) (h : 2 ≤ length xs) (p : Found) (e : p ≡ first_missing (live_hyperedges (read L ws)) xs) where
-  missing : (i : ℕ) → p ≡ At i → (i < length xs) × (result_of (hyperedge_missing (get_or xs i 0)) out ≡ on_live_hyperedges (read L ws) xs out (listed (shared xs (read L ws)) out))
+module _ (L : ℕ) (ws xs out : List ℕ) (h : 2 ≤ length xs) (p : Option ℕ) (e : p ≡ first_missing (live_hyperedges (read L ws)) xs) where
+  missing : (i : ℕ) → p ≡ Some i → (i < length xs) × (result_of (hyperedge_missing (get_or xs i 0)) out ≡ on_live_hyperedges (read L ws) xs out (listed (shared xs (read L ws)) out))
   missing i q = on-first-missing (live_hyperedges (read L ws)) hyperedge_missing out (listed (shared xs (read L ws)) out) xs i (sym e ∙ q)
 
-  pub missing-within : (i : ℕ) → p ≡ At i → i < length xs
+  pub missing-within : (i : ℕ) → p ≡ Some i → i < length xs
   missing-within i q = (missing i q).0
 
-  pub shared-missing : (i : ℕ) → p ≡ At i → result_of (hyperedge_missing (get_or xs i 0)) out ≡ intersections_result xs out (read L ws)
+  pub shared-missing : (i : ℕ) → p ≡ Some i → result_of (hyperedge_missing (get_or xs i 0)) out ≡ intersections_result xs out (read L ws)
   unfolding intersections_result
   shared-missing i q = (missing i q).1 ∙ several xs out _ h
 
   -- a is what the code listed
-  pub shared-listed : (a : Result) → p ≡ Nothing → a ≡ listed (shared xs (read L ws)) out → a ≡ intersections_result xs out (read L ws)
+  pub shared-listed : (a : Result) → p ≡ None → a ≡ listed (shared xs (read L ws)) out → a ≡ intersections_result xs out (read L ws)
   unfolding intersections_result
   shared-listed a q s = s ∙ on-none-missing (live_hyperedges (read L ws)) hyperedge_missing out (listed (shared xs (read L ws)) out) xs (sym e ∙ q) ∙ several xs out _ h

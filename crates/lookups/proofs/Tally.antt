@@ -1,4 +1,5 @@
 -- Laws of the loops that count places by the record of a vertex: what is left to be counted, and what a place counts. Assumes nothing.
+use Rattle.std.specs.Prelude.{Option, Some, None}
 use mathlib.Core.Path.{◌≡◌, refl, sym, ap, ◌∙◌}
 use mathlib.Core.Bool.{Bool, true, false, cond}
 use mathlib.Core.List.{List, ◌∷◌, ◌++◌}
@@ -13,8 +14,6 @@ use Rattle.lists.specs.Lists.{flat, tab, Ascending}
 use Rattle.lists.proofs.Cases.{on, on_same}
 use Rattle.lists.proofs.Flat.{flat-more}
 use Rattle.lists.proofs.Ascend.{ascending-apart}
-use Rattle.layout.specs.declared.Found.{Found}
-use Rattle.layout.specs.declared.Found.TheVariants.{At, Nothing}
 use Rattle.layout.specs.Content.{Hyperedge, Table, live_vertices, position}
 use Rattle.layout.specs.Layout.{limit, vertex_limit, vertex_count, hyperedge_count, hyperedge_at, members_at, read_hyperedges, read}
 use Rattle.layout.specs.Inner.{Formed, step_at}
@@ -99,20 +98,20 @@ connecting-most ws dir v y f =
 
 -- ---- a search for x found p, and the record found counts one more
 
-module _ (L : ℕ) (ws : List ℕ) (x : ℕ) (counts : List ℕ) (p : Found) (e : p ≡ position x (live_vertices (read L ws))) where
-  pub tally-none : p ≡ Nothing → counts ≡ tallying (position x (live_vertices (read L ws))) counts
+module _ (L : ℕ) (ws : List ℕ) (x : ℕ) (counts : List ℕ) (p : Option ℕ) (e : p ≡ position x (live_vertices (read L ws))) where
+  pub tally-none : p ≡ None → counts ≡ tallying (position x (live_vertices (read L ws))) counts
   tally-none h = rw (← e, h)
 
-  pub tally-one : (k : ℕ) → p ≡ At k → set counts k (get_or counts k 0 + 1) ≡ tallying (position x (live_vertices (read L ws))) counts
+  pub tally-one : (k : ℕ) → p ≡ Some k → set counts k (get_or counts k 0 + 1) ≡ tallying (position x (live_vertices (read L ws))) counts
   tally-one k h = rw (← e, h)
 
-  tally-at : (k : ℕ) → p ≡ At k → k < vertex_count ws
+  tally-at : (k : ℕ) → p ≡ Some k → k < vertex_count ws
   tally-at k h = (vertex-found L ws x k (sym e ∙ h)).0
 
-  pub tally-in : (k : ℕ) → Formed L ws → p ≡ At k → k < vertex_limit
+  pub tally-in : (k : ℕ) → Formed L ws → p ≡ Some k → k < vertex_limit
   tally-in k f h = omega (arith, tally-at k h, f.shape.vertices-le)
 
-  pub tally-most : (most k : ℕ) → ((i : ℕ) → i < vertex_count ws → get_or counts i 0 ≤ most) → p ≡ At k → get_or counts k 0 ≤ most
+  pub tally-most : (most k : ℕ) → ((i : ℕ) → i < vertex_count ws → get_or counts i 0 ≤ most) → p ≡ Some k → get_or counts k 0 ≤ most
   tally-most most k b h = b k (tally-at k h)
 
 -- ---- the counts
@@ -135,12 +134,12 @@ module _ {live : List ℕ} {whole left : ℕ → List ℕ} {counts : List ℕ} (
       here : (y : ℕ) → y ≡ x → left y ≡ e ∷ left' y
       here y w = s y ∙ rw (eq-eqb y x w)
 
-      go : (p : Found) → position x live ≡ p → next ≡ tallying p counts → Tallied live whole left' next
-      go Nothing f q = rw q (record {
+      go : (p : Option ℕ) → position x live ≡ p → next ≡ tallying p counts → Tallied live whole left' next
+      go None f q = rw q (record {
         sized = t.sized;
         each = λ k h. ap (λ (xs : List ℕ). get_or counts k 0 + length xs) (sym (skip (get_or live k 0) (position-missing x live f k h))) ∙ t.each k h;
       })
-      go (At i) f q =
+      go (Some i) f q =
           let r = position-found x live i f in
           rw q (record {
             sized = length-set counts i (get_or counts i 0 + 1) ∙ t.sized;

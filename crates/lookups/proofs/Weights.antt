@@ -1,4 +1,5 @@
 -- Laws of the loops over the weights of the vertices. Assumes nothing.
+use Rattle.std.specs.Prelude.{Ok}
 use mathlib.Core.Path.{◌≡◌, refl, sym, ap, ap₂, ◌∙◌}
 use mathlib.Core.Bool.{Bool, true, false, cond, ◌||◌}
 use mathlib.Core.List.{List, [], ◌∷◌, ◌++◌, map}
@@ -14,7 +15,6 @@ use Rattle.lists.proofs.Cases.{on, on_same}
 use Rattle.lists.proofs.Maps.{map_snoc}
 use Rattle.lists.proofs.Tab.{tab-suc, drop-tab, length-tab}
 use Rattle.lists.proofs.Filter.{filter-snoc}
-use Rattle.layout.specs.declared.Answer.TheVariants.{Done}
 use Rattle.layout.specs.Content.{vertex_number, live_vertices}
 use Rattle.layout.specs.Layout.{vertex_limit, vertex_count, vertex_at, read_vertices, read}
 use Rattle.layout.specs.Answers.{Result, result_of, listed}
@@ -97,8 +97,8 @@ module _ (w : ℕ) (ws : List ℕ) (n k : ℕ) (whole : Bool) (e : n ≡ vertex_
 
 -- r is what the code found, and it answered 1 or 0
 module _ (r b : Bool) (e : r ≡ b) where
-  pub answer-yes : r ≡ true → result_of (Done 1) [] ≡ result_of (Done (bit b)) []
+  pub answer-yes : r ≡ true → result_of (Ok 1) [] ≡ result_of (Ok (bit b)) []
   answer-yes h = rw (← e, h)
 
-  pub answer-no : r ≡ false → result_of (Done 0) [] ≡ result_of (Done (bit b)) []
+  pub answer-no : r ≡ false → result_of (Ok 0) [] ≡ result_of (Ok (bit b)) []
   answer-no h = rw (← e, h)

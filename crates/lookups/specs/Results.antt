@@ -1,7 +1,7 @@
 -- What each lookup answers and leaves, in the order of its refusals; 1 comes before all by `on_formed`. Assumes nothing.
-use Rattle.std.specs.Prelude.{Bool, cond, List, [], ℕ, ltb, length}
+use Rattle.std.specs.Prelude.{Bool, cond, List, [], ℕ, ltb, length, Ok, Err}
 use Rattle.lists.specs.Tests.{bit}
-use Rattle.layout.specs.declared.Answer.TheVariants.{Done, TooFewHyperedges}
+use Rattle.layout.specs.declared.Refusal.TheVariants.{TooFewHyperedges}
 use Rattle.layout.specs.Content.{Table}
 use Rattle.layout.specs.Answers.{Result, result_of, on_live_vertex, on_live_hyperedges, listed}
 use Rattle.lookups.specs.declared.Direction.{Direction}
@@ -19,7 +19,7 @@ abbrev pub is_few : List ℕ → Bool
 is_few xs = ltb (length xs) 2
 
 unfoldable pub on_several : List ℕ → List ℕ → Result → Result
-on_several xs lent r = cond (is_few xs) (result_of TooFewHyperedges lent) r
+on_several xs lent r = cond (is_few xs) (result_of (Err TooFewHyperedges) lent) r
 
 -- get_hyperedges_intersections: 1, 10, 4, 11
 unfoldable pub intersections_result : List ℕ → List ℕ → Table → Result
@@ -27,7 +27,7 @@ intersections_result xs out t = on_several xs out (on_live_hyperedges t xs out (
 
 -- get_vertex_degree_in and _out: To and From; 1, 3
 unfoldable pub degree_result : Direction → ℕ → Table → Result
-degree_result dir v t = on_live_vertex t v [] (result_of (Done (degree dir v t)) [])
+degree_result dir v t = on_live_vertex t v [] (result_of (Ok (degree dir v t)) [])
 
 -- a listing of hyperedges by a vertex: 3, 11
 unfoldable pub listing_result : ℕ → Listing → List ℕ → Table → Result
@@ -51,7 +51,7 @@ weighing_result w out t = listed (listing (Weighing w) t) out
 
 -- contains_vertex: 1; then yes or no
 abbrev pub contains_result : ℕ → Table → Result
-contains_result w t = result_of (Done (bit (has_vertex_weighing w t))) []
+contains_result w t = result_of (Ok (bit (has_vertex_weighing w t))) []
 
 -- get_vertex_index: 1, 11
 abbrev pub vertex_index_result : ℕ → List ℕ → Table → Result

@@ -1,9 +1,7 @@
 -- What the loops of the lookups mark, count and fill in on the way. Assumes nothing.
-use Rattle.std.specs.Prelude.{◌≡◌, Bool, false, not, cond, ◌||◌, List, [], ◌∷◌, ℕ, suc, ◌+◌, ◌*◌, ◌-◌, ◌≤◌, ◌<◌, eqb, length, get_or, take, drop, set, replicate}
+use Rattle.std.specs.Prelude.{◌≡◌, Bool, false, not, cond, ◌||◌, List, [], ◌∷◌, ℕ, suc, ◌+◌, ◌*◌, ◌-◌, ◌≤◌, ◌<◌, eqb, length, get_or, take, drop, set, replicate, Option, Some, None}
 use Rattle.lists.specs.Tests.{◌and◌}
-use Rattle.lists.specs.Lists.{any, flat, sum_over, counted}
-use Rattle.layout.specs.declared.Found.{Found}
-use Rattle.layout.specs.declared.Found.TheVariants.{At, Nothing}
+use Rattle.lists.specs.Lists.{any, flat, sum_over}
 use Rattle.layout.specs.Content.{Table, Hyperedge}
 use Rattle.layout.specs.Layout.{vertex_limit, hyperedge_limit, limit, vertex_at}
 use Rattle.marks.specs.Marks.{is_marked}
@@ -66,9 +64,9 @@ abbrev pub nothing : ℕ → List ℕ
 nothing y = []
 
 -- one more at the place that a search found
-abbrev pub tallying : Found → List ℕ → List ℕ
-tallying (At k) counts = set counts k (get_or counts k 0 + 1)
-tallying Nothing counts = counts
+abbrev pub tallying : Option ℕ → List ℕ → List ℕ
+tallying (Some k) counts = set counts k (get_or counts k 0 + 1)
+tallying None counts = counts
 
 -- of the list of each live vertex, what is not left is counted
 pub record Tallied (live : List ℕ) (whole left : ℕ → List ℕ) (counts : List ℕ) : Type 0 where
@@ -116,9 +114,9 @@ unfoldable pub offset : List ℕ → (ℕ → List ℕ) → ℕ → ℕ
 offset live whole k = length (flat (full_words whole) (take k live))
 
 -- e written where the word at the found place says
-abbrev pub placing : Found → List ℕ → ℕ → List ℕ → List ℕ
-placing (At k) nexts e out = set out (get_or nexts k 0) e
-placing Nothing nexts e out = out
+abbrev pub placing : Option ℕ → List ℕ → ℕ → List ℕ → List ℕ
+placing (Some k) nexts e out = set out (get_or nexts k 0) e
+placing None nexts e out = out
 
 -- the words of each live vertex stand before its next word, and what is left belongs from there on
 pub record Filling (live : List ℕ) (whole left : ℕ → List ℕ) (nexts out : List ℕ) : Type 0 where

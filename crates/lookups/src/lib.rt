@@ -60,12 +60,10 @@ pub fn holds(ms: &[u32], v: u32) -> bool
     ensures { result ≡ memb v ms.now }
 {
     let mut found = false;
-    let mut i = 0;
-    while i < ms.len() {
+    for i in 0..ms.len() {
         if ms[i] == v {
             found = true;
         }
-        i += 1;
     }
     found
 }

@@ -33,10 +33,8 @@ fn word_of(m: &[u8; 65536], n: usize, x: usize, first: usize) -> u64
 {
     let end = word_end(first, n);
     let mut word = 0u64;
-    let mut b = 0;
-    while first + b < end {
+    for b in 0..end - first {
         word |= ((m[x * 256 + (first + b)] == 1) as u64) << b;
-        b += 1;
     }
     word
 }
@@ -46,10 +44,8 @@ fn fill_row(m: &[u8; 65536], n: usize, x: usize, rows: &mut [u64; 1024])
     requires { (n ≤ 256) × (x < 256) × (length rows.old ≡ 1024) }
     ensures { RowIs x (mark_below m.now n x) rows.old rows.new }
 {
-    let mut w = 0;
-    while w < 4 {
+    for w in 0..4 {
         rows[x * 4 + w] = word_of(m, n, x, w * 64);
-        w += 1;
     }
 }
 
@@ -58,10 +54,8 @@ pub fn fill_rows(m: &[u8; 65536], n: usize, rows: &mut [u64; 1024])
     requires { (n ≤ 256) × (length rows.old ≡ 1024) }
     ensures { RowsOf m.now n n rows.new }
 {
-    let mut x = 0;
-    while x < n {
+    for x in 0..n {
         fill_row(m, n, x, rows);
-        x += 1;
     }
 }
 
@@ -70,10 +64,8 @@ pub fn hand_row(rows: &mut [u64; 1024], k: usize, x: usize)
     requires { (k < 256) × (x < 256) × (length rows.old ≡ 1024) }
     ensures { RowIs x (either rows.old x k) rows.old rows.new }
 {
-    let mut i = 0;
-    while i < 4 {
+    for i in 0..4 {
         rows[x * 4 + i] |= rows[k * 4 + i];
-        i += 1;
     }
 }
 
@@ -90,10 +82,8 @@ pub fn count_marks(rows: &[u64; 1024], x: usize) -> usize
     ensures { (result ≡ row_count rows.now x) × (result ≤ 256) }
 {
     let mut c = 0;
-    let mut w = 0;
-    while w < 4 {
+    for w in 0..4 {
         c += count_word(rows[x * 4 + w]);
-        w += 1;
     }
     c
 }

@@ -1,4 +1,5 @@
 -- Laws of marks and of the list that they pick. Assumes nothing.
+use Rattle.std.specs.Prelude.{Option, Some, None, Ok, Err}
 use mathlib.Core.Path.{◌≡◌, refl, sym, ap, ◌∙◌}
 use mathlib.Core.Bool.{Bool, true, false, ◌||◌}
 use mathlib.Core.List.{List, map}
@@ -18,9 +19,7 @@ use Rattle.lists.proofs.Chosen.{chosen-in, chosen-out, chosen_none, chosen-count
 use Rattle.lists.proofs.Filter.{filter-tab}
 use Rattle.lists.proofs.Flat.{tab-getD}
 use Rattle.lists.proofs.Ascend.{ascending-apart}
-use Rattle.layout.specs.declared.Found.{Found}
-use Rattle.layout.specs.declared.Found.TheVariants.{At, Nothing}
-use Rattle.layout.specs.declared.Answer.TheVariants.{Done, NoRoom}
+use Rattle.layout.specs.declared.Refusal.TheVariants.{NoRoom}
 use Rattle.layout.specs.Content.{live_vertices, position}
 use Rattle.layout.specs.Layout.{vertex_limit, vertex_count, vertex_word, read}
 use Rattle.layout.specs.Inner.{Formed}
@@ -37,9 +36,9 @@ pub marking-at : (live : List ℕ) (x : ℕ) (marks : List Bool) → Ascending l
     → is_marked (marking (position x live) marks) k ≡ (is_marked marks k || eqb (get_or live k 0) x)
 marking-at live x marks asc le k h = go (position x live) refl
   where
-    go : (p : Found) → position x live ≡ p → is_marked (marking p marks) k ≡ (is_marked marks k || eqb (get_or live k 0) x)
-    go Nothing e = rw (ne_eqb (get_or live k 0) x (position-missing x live e k h)) (sym (or-false _))
-    go (At i) e =
+    go : (p : Option ℕ) → position x live ≡ p → is_marked (marking p marks) k ≡ (is_marked marks k || eqb (get_or live k 0) x)
+    go None e = rw (ne_eqb (get_or live k 0) x (position-missing x live e k h)) (sym (or-false _))
+    go (Some i) e =
         let f = position-found x live i e in
         on_same i k
         (λ q. rw (← q, get_or-set_same marks i true false (omega (arith, f.0)), eq-eqb (get_or live i 0) x f.1) (sym (or_right (is_marked marks i) true refl)))
@@ -49,14 +48,14 @@ marking-at live x marks asc le k h = go (position x live) refl
         ) (sym (or-false _)))
 
 -- the same for `search`: p is what `find_vertex` returned
-module _ (L : ℕ) (ws : List ℕ) (x : ℕ) (marks : List Bool) (p : Found) (e : p ≡ position x (live_vertices (read L ws))) where
-  pub marked-none : p ≡ Nothing → marks ≡ marking (position x (live_vertices (read L ws))) marks
+module _ (L : ℕ) (ws : List ℕ) (x : ℕ) (marks : List Bool) (p : Option ℕ) (e : p ≡ position x (live_vertices (read L ws))) where
+  pub marked-none : p ≡ None → marks ≡ marking (position x (live_vertices (read L ws))) marks
   marked-none h = rw (← e, h)
 
-  pub marked-one : (i : ℕ) → p ≡ At i → set marks i true ≡ marking (position x (live_vertices (read L ws))) marks
+  pub marked-one : (i : ℕ) → p ≡ Some i → set marks i true ≡ marking (position x (live_vertices (read L ws))) marks
   marked-one i h = rw (← e, h)
 
-  pub marked-in : (i : ℕ) → Formed L ws → p ≡ At i → i < vertex_limit
+  pub marked-in : (i : ℕ) → Formed L ws → p ≡ Some i → i < vertex_limit
   marked-in i f h = omega (arith, (vertex-found L ws x i (sym e ∙ h)).0, f.shape.vertices-le)
 
 -- ---- the numbers picked
@@ -118,9 +117,9 @@ module _ (L : ℕ) (ws : List ℕ) (marks : List Bool) (n : ℕ) (e : n ≡ vert
     counted : c ≡ length (marked marks (live_vertices (read L ws)))
     counted = q ∙ sym (picked-length (is_marked marks) (word_at (live_vertices (read L ws))) n) ∙ ap length marked-are
 
-    pub marked-over : length out < c → result_of (NoRoom c) out ≡ listed (marked marks (live_vertices (read L ws))) out
+    pub marked-over : length out < c → result_of (Err (NoRoom c)) out ≡ listed (marked marks (live_vertices (read L ws))) out
     marked-over h = listed-over _ out c counted h
 
     pub marked-fits : (exit : List ℕ) → c ≤ length out → exit ≡ over (map (word_at (live_vertices (read L ws))) (chosen (is_marked marks) n)) out
-        → result_of (Done c) exit ≡ listed (marked marks (live_vertices (read L ws))) out
+        → result_of (Ok c) exit ≡ listed (marked marks (live_vertices (read L ws))) out
     marked-fits exit h w = listed-fits _ out c counted exit h (w ∙ ap (λ (xs : List ℕ). over xs out) marked-are)

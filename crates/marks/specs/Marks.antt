@@ -1,18 +1,16 @@
 -- One mark for each vertex record, and the numbers of the records that are marked. Assumes nothing.
-use Rattle.std.specs.Prelude.{Bool, true, false, List, map, ℕ, length, get_or, set}
+use Rattle.std.specs.Prelude.{Bool, true, false, List, map, ℕ, length, get_or, set, Option, Some, None}
 use Rattle.lists.specs.Tests.{chosen}
 use Rattle.lists.specs.Lists.{word_at}
-use Rattle.layout.specs.declared.Found.{Found}
-use Rattle.layout.specs.declared.Found.TheVariants.{At, Nothing}
 
 -- record k has a mark
 abbrev pub is_marked : List Bool → ℕ → Bool
 is_marked marks k = get_or marks k false
 
 -- one mark more: at the place that a search found
-abbrev pub marking : Found → List Bool → List Bool
-marking (At i) marks = set marks i true
-marking Nothing marks = marks
+abbrev pub marking : Option ℕ → List Bool → List Bool
+marking (Some i) marks = set marks i true
+marking None marks = marks
 
 -- the numbers of the marked records, in the records' order
 unfoldable pub marked : List Bool → List ℕ → List ℕ

@@ -10,7 +10,7 @@ ghost use Rattle.layout.specs.Inner.{Formed};
 ghost use Rattle.layout.specs.Answers.{result_of, listed};
 ghost use Rattle.marks.specs.Marks.{is_marked, marking, marked};
 
-use layout::{Answer, Found, VertexIndex};
+use layout::{Answer, Refusal, VertexIndex};
 
 // One mark more: the record of vertex x, where it is live.
 pub fn mark(t: &[u32], x: u32, marks: &mut [bool; 256])
@@ -19,8 +19,8 @@ pub fn mark(t: &[u32], x: u32, marks: &mut [bool; 256])
 {
     let f = find::find_vertex(t, VertexIndex(x));
     match f {
-        Found::Nothing => {}
-        Found::At(i) => marks[i] = true,
+        None => {}
+        Some(i) => marks[i] = true,
     }
 }
 
@@ -30,12 +30,10 @@ pub fn count_marked(marks: &[bool; 256], n: usize) -> usize
     ensures { result ≡ count (is_marked marks.now) n }
 {
     let mut c = 0;
-    let mut k = 0;
-    while k < n {
+    for k in 0..n {
         if marks[k] {
             c += 1;
         }
-        k += 1;
     }
     c
 }
@@ -47,13 +45,11 @@ pub fn write_marked(t: &[u32], n: usize, marks: &[bool; 256], out: &mut [u32])
     ensures { out.new ≡ over (map (word_at (live_vertices (read limit t.now))) (chosen (is_marked marks.now) n)) out.old }
 {
     let mut c = 0;
-    let mut k = 0;
-    while k < n {
+    for k in 0..n {
         if marks[k] {
             out[c] = layout::vertex_number(t, k);
             c += 1;
         }
-        k += 1;
     }
 }
 
@@ -65,8 +61,8 @@ pub fn list_marked(t: &[u32], marks: &[bool; 256], out: &mut [u32]) -> Answer
     let n = layout::vertex_count(t);
     let c = count_marked(marks, n);
     if out.len() < c {
-        return Answer::NoRoom(c);
+        return Err(Refusal::NoRoom(c));
     }
     write_marked(t, n, marks, out);
-    Answer::Done(c)
+    Ok(c)
 }

@@ -30,10 +30,8 @@ fn put_row(marks: &[bool; 256], j: usize, m: &mut [bool; 65536])
     requires { (j < vertex_limit) × (length m.old ≡ vertex_limit * vertex_limit) }
     ensures { RowPut marks.now j m.old vertex_limit m.new }
 {
-    let mut i = 0;
-    while i < layout::VERTEX_LIMIT {
+    for i in 0..layout::VERTEX_LIMIT {
         m[j * layout::VERTEX_LIMIT + i] = marks[i];
-        i += 1;
     }
 }
 
@@ -45,12 +43,10 @@ pub fn member_sets(t: &[u32], m: &mut [bool; 65536], sizes: &mut [usize; 256])
 {
     let n = layout::vertex_count(t);
     let k = layout::hyperedge_count(t);
-    let mut j = 0;
-    while j < k {
+    for j in 0..k {
         let marks = member_marks(t, j);
         put_row(&marks, j, m);
         sizes[j] = marks::count_marked(&marks, n);
-        j += 1;
     }
 }
 
@@ -75,14 +71,12 @@ fn part_within(m: &[bool; 65536], a: usize, b: usize, from: usize, to: usize) ->
     ensures { result ≡ every (under (row_of m.now a) (row_of m.now b)) to }
 {
     let mut ok = true;
-    let mut i = from;
-    while i < to {
+    for i in from..to {
         ok = still(
             ok,
             m[a * layout::VERTEX_LIMIT + i],
             m[b * layout::VERTEX_LIMIT + i],
         );
-        i += 1;
     }
     ok
 }
@@ -104,6 +98,7 @@ fn within(m: &[bool; 65536], n: usize, a: usize, b: usize) -> bool
     ensures { result ≡ within n (row_of m.now a) (row_of m.now b) }
 {
     let mut i = 0;
+    // It counts no index: each turn goes on from the end of a part.
     while i < n {
         let e = part_end(i, n);
         if !part_within(m, a, b, i, e) {

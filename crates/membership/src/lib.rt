@@ -7,7 +7,7 @@ ghost use Rattle.layout.specs.Inner.{Formed};
 ghost use Rattle.steps.specs.Inner.{cell};
 ghost use Rattle.walk.specs.Passes.{Firsts, Entering, Listers};
 
-use layout::{Found, VertexIndex};
+use layout::VertexIndex;
 
 // One place more in row i.
 fn append(i: usize, j: usize, rows: &mut [u8; 65536], counts: &mut [usize; 256])
@@ -38,10 +38,8 @@ fn enter(
     if !firsts[j * layout::VERTEX_LIMIT + p] {
         return;
     }
-    let f = find::find_vertex(t, VertexIndex(x));
-    match f {
-        Found::Nothing => {}
-        Found::At(i) => append(i, j, rows, counts),
+    if let Some(i) = find::find_vertex(t, VertexIndex(x)) {
+        append(i, j, rows, counts);
     }
 }
 
@@ -58,10 +56,8 @@ fn enter_record(
     ensures { Listers t.now (j + 1) rows.new counts.new }
 {
     let ms = layout::members_formed(t, j);
-    let mut p = 0;
-    while p < ms.len() {
+    for p in 0..ms.len() {
         enter(t, firsts, ms[p], j, p, rows, counts);
-        p += 1;
     }
 }
 
@@ -81,9 +77,7 @@ pub fn list_members(
     let none = [0usize; 256];
     *counts = none;
     let k = layout::hyperedge_count(t);
-    let mut j = 0;
-    while j < k {
+    for j in 0..k {
         enter_record(t, firsts, j, rows, counts);
-        j += 1;
     }
 }

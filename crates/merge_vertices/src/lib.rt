@@ -10,29 +10,26 @@ ghost use Rattle.edits.specs.Results.{merge_result};
 ghost use Rattle.edits.specs.Stages.{merge_live_result, merge_into_result};
 
 use edits::shift::drop_vertex;
-use layout::{Answer, Found, HyperedgeIndex, VertexIndex};
+use layout::{Answer, HyperedgeIndex, Refusal, VertexIndex};
 use rename_vertex::rename_vertex;
 use side_by_side::find_side_by_side;
 
 // Tests 13 and 14, then merges. The record of w is at place i.
 fn merge_live(t: &mut [u32], v: VertexIndex, w: VertexIndex, i: usize) -> Answer
     requires formed { Formed limit t.old }
-    requires t_value { position w.0 (live_vertices (read limit t.old)) ≡ Found.At i }
+    requires t_value { position w.0 (live_vertices (read limit t.old)) ≡ Some i }
     ensures { result_of result t.new ≡ merge_live_result v.0 w.0 t.old (read limit t.old) }
 {
     if v.0 == w.0 {
-        return Answer::SameVertex(v);
+        return Err(Refusal::SameVertex(v));
     }
-    let f = find_side_by_side(t, v.0, w.0);
-    match f {
-        Found::At(j) => Answer::SideBySide(HyperedgeIndex(layout::hyperedge_number(t, j))),
-        Found::Nothing => {
-            let n = layout::vertex_count(t);
-            rename_vertex(t, v.0, w.0);
-            drop_vertex(t, i, n);
-            Answer::Done(0)
-        }
+    if let Some(j) = find_side_by_side(t, v.0, w.0) {
+        return Err(Refusal::SideBySide(HyperedgeIndex(layout::hyperedge_number(t, j))));
     }
+    let n = layout::vertex_count(t);
+    rename_vertex(t, v.0, w.0);
+    drop_vertex(t, i, n);
+    Ok(0)
 }
 
 // The merge, where v is live.
@@ -40,11 +37,8 @@ fn merge_into(t: &mut [u32], v: VertexIndex, w: VertexIndex) -> Answer
     requires { Formed limit t.old }
     ensures { result_of result t.new ≡ merge_into_result v.0 w.0 t.old (read limit t.old) }
 {
-    let f = find::find_vertex(t, w);
-    match f {
-        Found::Nothing => Answer::VertexNotLive(w),
-        Found::At(i) => merge_live(t, v, w, i),
-    }
+    let i = find::find_vertex(t, w).ok_or(Refusal::VertexNotLive(w))?;
+    merge_live(t, v, w, i)
 }
 
 // The merge, of a well-formed table.
@@ -52,11 +46,8 @@ fn merge_formed(t: &mut [u32], v: VertexIndex, w: VertexIndex) -> Answer
     requires { Formed limit t.old }
     ensures { result_of result t.new ≡ merge_result v.0 w.0 t.old (read limit t.old) }
 {
-    let f = find::find_vertex(t, v);
-    match f {
-        Found::Nothing => Answer::VertexNotLive(v),
-        Found::At(_) => merge_into(t, v, w),
-    }
+    find::find_vertex(t, v).ok_or(Refusal::VertexNotLive(v))?;
+    merge_into(t, v, w)
 }
 
 // Merges w into v: each w in every list becomes v, and w is removed.
@@ -64,7 +55,7 @@ pub fn merge_vertices(t: &mut [u32], v: VertexIndex, w: VertexIndex) -> Answer
     ensures { result_of result t.new ≡ on_formed t.old t.old (merge_result v.0 w.0 t.old) }
 {
     if !well_formed::well_formed(t) {
-        return Answer::NotWellFormed;
+        return Err(Refusal::NotWellFormed);
     }
     merge_formed(t, v, w)
 }

@@ -1,4 +1,5 @@
 -- Which merges of a well-formed table are not refused, and the words and the content that they leave. Assumes nothing.
+use Rattle.std.specs.Prelude.{Ok}
 use mathlib.Core.Path.{◌≡◌, refl, ap, ◌∙◌}
 use mathlib.Core.Bool.{Bool, true, false}
 use mathlib.Core.List.{List, [], ◌∷◌}
@@ -6,8 +7,7 @@ use Prim.Native.Nat.{ℕ}
 use borrow.Author.Tests.{eqb-false, ne_eqb}
 use Rattle.lists.specs.Lists.{any}
 use Rattle.lists.proofs.Cases.{or-false-left, or-false-right}
-use Rattle.layout.specs.declared.Answer.{Answer}
-use Rattle.layout.specs.declared.Answer.TheVariants.{Done}
+use Rattle.layout.specs.Answers.{Answer}
 use Rattle.layout.specs.Content.{Hyperedge, Table}
 use Rattle.layout.specs.Layout.{limit, read, words}
 use Rattle.layout.specs.WellFormed.{well_formed}
@@ -28,7 +28,7 @@ first-none p answer [] lent r q = refl
 first-none p answer (e ∷ es) lent r q = rw (or-false-left (p e) (any p es) q) (first-none p answer es lent r (or-false-right (p e) (any p es) q))
 
 -- a merge that meets no refusal is done
-merge-done : (v w : ℕ) (ws : List ℕ) (t : Table) → Mergeable v w t → merge_result v w ws t ≡ result_of (Done 0) (words limit (merge_vertices v w t))
+merge-done : (v w : ℕ) (ws : List ℕ) (t : Table) → Mergeable v w t → merge_result v w ws t ≡ result_of (Ok 0) (words limit (merge_vertices v w t))
 unfolding merge_result on_live on_other
 merge-done v w ws t m =
     rw (m.kept-live, m.gone-live, ne_eqb v w m.two) (first-none (side_by_side v w) (by_number side_by_side_in) t.hyperedges ws _ m.apart)

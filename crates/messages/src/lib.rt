@@ -9,7 +9,7 @@ ghost use Rattle.messages.specs.Messages.{opening, ending, any_change, could_cha
 
 use causes::{put_cause, put_why};
 use commands::Command;
-use layout::{Answer, reply_of};
+use layout::{Answer, Reply};
 use wording::{put_form, put_text};
 
 // How a message begins.
@@ -68,7 +68,7 @@ pub fn put_refusal(
 ) -> usize
     ensures { page out.new result ≡ write (refusal_text single line c list.now name.now walk.now (number answer) (detail answer)) (page out.old at) }
 {
-    let reply = reply_of(answer);
+    let reply = Reply::from(answer);
     let a = put_opening(out, at, single, line);
     let b = put_why(out, a, c, list, name, walk, reply.number, reply.detail);
     put_ending(out, b, could_change(single, c))

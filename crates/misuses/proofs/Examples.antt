@@ -1,11 +1,11 @@
 -- What is said of lines that are no command, and the lines of the help beside the names of the commands, computed. Assumes nothing.
+use Rattle.std.specs.Prelude.{Some}
 use mathlib.Core.Path.{◌≡◌, refl}
 use mathlib.Core.Bool.{true, false}
 use mathlib.Core.List.{List, [], ◌∷◌, map}
 use Prim.Native.Nat.{ℕ}
 use Rattle.lists.specs.Tests.{◌and◌}
 use Rattle.lists.specs.Lists.{same_list, tab, up_to, flat}
-use Rattle.layout.specs.declared.Found.TheVariants.{At}
 use Rattle.edits.specs.Results.{first_passing, first_passing_from}
 use Rattle.wording.specs.Texts.{text, spelled, decimal}
 use Rattle.wording.specs.Forms.{within, wide_at, meant, filled}
@@ -39,6 +39,6 @@ unfolding ◌and◌ flat spelled decimal within wide_at meant filled first_line 
 misuses = refl
 
 -- line k of the help opens with the name of command k
-pub help-in-order : map (λ (k : ℕ). named (help_on k)) (up_to command_count) ≡ map At (up_to command_count)
+pub help-in-order : map (λ (k : ℕ). named (help_on k)) (up_to command_count) ≡ map Some (up_to command_count)
 unfolding ◌and◌ same_list tab first_passing first_passing_from first_line other_lines line_at forms names ends_at opens_with named command_lines help_on
 help-in-order = refl

@@ -37,11 +37,9 @@ fn total_weight(t: &[u32], rows: &[u8; 65536], counts: &[usize; 256], i: usize, 
     ensures { (result ≡ total_weight (records_at t.now (listers_of t.now i))) × (result ≤ 2 ^ 53) }
 {
     let mut total = 0;
-    let mut k = 0;
-    while k < n {
+    for k in 0..n {
         let j = lister(t, rows, counts, i, k);
         total += wide(layout::hyperedge_weight(t, j));
-        k += 1;
     }
     total
 }
@@ -60,14 +58,12 @@ fn first_greater(
     ensures { Greater t.now (listers_of t.now i) x result }
 {
     let mut sum = 0;
-    let mut k = 0;
-    while k < n {
+    for k in 0..n {
         let j = lister(t, rows, counts, i, k);
         sum += wide(layout::hyperedge_weight(t, j));
         if greater(x, sum) {
             return j;
         }
-        k += 1;
     }
     lister(t, rows, counts, i, n - 1)
 }
@@ -92,15 +88,11 @@ fn list_others(t: &[u32], firsts: &[bool; 65536], j: usize, v: u32, found: &mut 
 {
     let ms = layout::members_formed(t, j);
     let mut c = 0;
-    let mut p = 0;
-    while p < ms.len() {
-        if !is_first_other(t, firsts, j, ms, v, p) {
-            p += 1;
-            continue;
+    for p in 0..ms.len() {
+        if is_first_other(t, firsts, j, ms, v, p) {
+            found[c] = ms[p];
+            c += 1;
         }
-        found[c] = ms[p];
-        c += 1;
-        p += 1;
     }
     c
 }

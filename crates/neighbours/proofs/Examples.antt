@@ -1,4 +1,5 @@
 -- The removal of a vertex, a tray with a record of one and the read of a text, each with a table in which it brings equals together. Assumes nothing.
+use Rattle.std.specs.Prelude.{Ok}
 use mathlib.Core.Path.{◌≡◌, refl, ap, ◌∙◌}
 use mathlib.Core.Bool.{true, false}
 use mathlib.Core.List.{List, [], ◌∷◌}
@@ -8,7 +9,6 @@ use borrow.Author.Tests.{eq-eqb, ltb-true}
 use Rattle.lists.specs.Tests.{◌and◌}
 use Rattle.lists.specs.Lists.{all, any, filter, other_than, ascending}
 use Rattle.lists.proofs.All.{all-at}
-use Rattle.layout.specs.declared.Answer.TheVariants.{Done}
 use Rattle.layout.specs.Content.{Vertex, Hyperedge, no_vertex, no_hyperedge, members_live, numbered, valid}
 use Rattle.layout.specs.Layout.{limit, size, read, words}
 use Rattle.layout.specs.WellFormed.{well_formed, count_fits, holdable}
@@ -54,7 +54,7 @@ between-formed = words-formed limit Between between-holdable
 
 -- ---- a call that makes the second of the first
 
-brings-by : (c : Call) → call c (words limit Between) ≡ result_of (Done 0) (words limit Together) → Brings c (words limit Between)
+brings-by : (c : Call) → call c (words limit Between) ≡ result_of (Ok 0) (words limit Together) → Brings c (words limit Between)
 unfolding after_calls
 brings-by c e = record {
   formed = between-formed;
@@ -65,7 +65,7 @@ brings-by c e = record {
 }
 
 -- vertex 1 removed from [0,1,0]
-removed-is : (ws : List ℕ) → remove_vertex_result 1 ws Between ≡ result_of (Done 0) (words limit Together)
+removed-is : (ws : List ℕ) → remove_vertex_result 1 ws Between ≡ result_of (Ok 0) (words limit Together)
 unfolding remove_vertex_result on_live remove_vertex without has_members filter other_than
 removed-is ws = refl
 
@@ -80,7 +80,7 @@ removal-brings =
 abbrev vertex_record : Withdrawal
 vertex_record = record { kind = 0; number = 1 }
 
-tray-is : (ws : List ℕ) → tray_result (vertex_record ∷ []) ws Between ≡ result_of (Done 0) (words limit Together)
+tray-is : (ws : List ℕ) → tray_result (vertex_record ∷ []) ws Between ≡ result_of (Ok 0) (words limit Together)
 unfolding tray_result first_passing first_passing_from is_faulty names_live asked withdrawn kept_vertex kept_hyperedge thinned stays_vertex stays_hyperedge is_vertex is_hyperedge any filter has_members
 tray-is ws = refl
 

@@ -13,7 +13,7 @@ ghost use Rattle.properties.specs.Results.{nestedness_result};
 ghost use Rattle.properties.specs.State.{Sets, Including, Classed, size_at, row_if};
 ghost use Rattle.lists.specs.Tests.{◌and◌, bit, count};
 
-use layout::Answer;
+use layout::{Answer, Refusal};
 use member_sets::{member_sets, strictly_within};
 
 // A row of size, included and total for each size that some hyperedge has.
@@ -21,7 +21,7 @@ pub fn get_nestedness_profile(t: &[u32], out: &mut [u32]) -> Answer
     ensures { result_of result out.new ≡ on_formed t.now out.old (nestedness_result out.old) }
 {
     if !well_formed::well_formed(t) {
-        return Answer::NotWellFormed;
+        return Err(Refusal::NotWellFormed);
     }
     list_profile(t, out)
 }
@@ -34,12 +34,10 @@ fn is_included(t: &[u32], m: &[bool; 65536], sizes: &[usize; 256], a: usize) -> 
     ensures { result ≡ is_included (read limit t.now) (hyperedge_at limit t.now a) }
 {
     let k = layout::hyperedge_count(t);
-    let mut b = 0;
-    while b < k {
+    for b in 0..k {
         if strictly_within(t, m, sizes, a, b) {
             return true;
         }
-        b += 1;
     }
     false
 }
@@ -52,10 +50,8 @@ fn included_marks(t: &[u32], m: &[bool; 65536], sizes: &[usize; 256]) -> [bool; 
 {
     let k = layout::hyperedge_count(t);
     let mut inc = [false; 256];
-    let mut a = 0;
-    while a < k {
+    for a in 0..k {
         inc[a] = is_included(t, m, sizes, a);
-        a += 1;
     }
     inc
 }
@@ -79,10 +75,8 @@ fn count_of_size(sizes: &[usize; 256], marks: &[bool; 256], k: usize, s: usize) 
     ensures { result ≡ count (size_at sizes.now marks.now s) k }
 {
     let mut c = 0;
-    let mut j = 0;
-    while j < k {
+    for j in 0..k {
         c += of_size(sizes[j], marks[j], s);
-        j += 1;
     }
     c
 }
@@ -147,10 +141,8 @@ fn count_rows(t: &[u32], sizes: &[usize; 256], all: &[bool; 256], inc: &[bool; 2
 {
     let e = layout::vertex_count(t) + 1;
     let mut c = 0;
-    let mut s = 0;
-    while s < e {
+    for s in 0..e {
         c += row_length(t, sizes, all, inc, s);
-        s += 1;
     }
     c
 }
@@ -169,11 +161,9 @@ fn write_rows(
 {
     let e = layout::vertex_count(t) + 1;
     let mut c = 0;
-    let mut s = 0;
-    while s < e {
+    for s in 0..e {
         let w = write_row(t, sizes, all, inc, s, &mut out[c..]);
         c += w;
-        s += 1;
     }
 }
 
@@ -188,8 +178,8 @@ fn list_profile(t: &[u32], out: &mut [u32]) -> Answer
     let inc = included_marks(t, &m, &sizes);
     let c = count_rows(t, &sizes, &all, &inc);
     if out.len() < c {
-        return Answer::NoRoom(c);
+        return Err(Refusal::NoRoom(c));
     }
     write_rows(t, &sizes, &all, &inc, out);
-    Answer::Done(c)
+    Ok(c)
 }

@@ -14,7 +14,7 @@ use Rattle.lists.proofs.Cases.{and-false-right, and-true}
 use Rattle.lists.proofs.Every.{every-at}
 use Rattle.order.specs.Least.{least}
 use Rattle.order.specs.State.{is_free, busy}
-use Rattle.order.proofs.Least.{least-here, least_on}
+use Rattle.order.proofs.Least.{least_on, least-found, least_step, least-end}
 
 -- numbers that don't pass are passed over
 least_skip : (f : ℕ → Bool) (c m j : ℕ) → ((i : ℕ) → i < c → f (j + i) ≡ false) → least f (c + m) j ≡ least f m (j + c)
@@ -41,23 +41,19 @@ module _ (d : List ℕ) (n k whole : ℕ) (le : k ≤ n) (h : least (is_free d) 
       let j : n - k + c ≡ n - (k - c) = omega arith in
       ap (least (is_free d) (k - c)) (sym j) ∙ sym (least_skip (is_free d) c (k - c) (n - k) none) ∙ ap (λ (i : ℕ). least (is_free d) i (n - k)) s ∙ h
 
-  pub left-found : 0 < k → get_or d (n - k) 0 ≡ 0 → n - k ≡ whole
-  left-found l e =
-      let s : k ≡ suc (k - 1) = omega arith in
-      sym (least-here (is_free d) (k - 1) (n - k) (eq-eqb (get_or d (n - k) 0) 0 e)) ∙ ap (λ (i : ℕ). least (is_free d) i (n - k)) (sym s) ∙ h
+-- number j is looked at next: what is left of the search has the answer of the whole
+pub first-begun : (d : List ℕ) (n k whole : ℕ) → k ≤ n → least (is_free d) k (n - k) ≡ whole → least (is_free d) (n - (n - k)) (n - k) ≡ whole
+first-begun d n k whole l h = let s : n - (n - k) ≡ k = omega arith in ap (λ (i : ℕ). least (is_free d) i (n - k)) s ∙ h
 
-  pub left-on : 0 < k → (get_or d (n - k) 0 ≡ 0 → ⊥) → least (is_free d) (k - 1) (n - (k - 1)) ≡ whole
-  left-on l e =
-      let s : k ≡ suc (k - 1) = omega arith in
-      let j : n - (k - 1) ≡ suc (n - k) = omega arith in
-      ap (least (is_free d) (k - 1)) j ∙ sym (least_on (is_free d) (k - 1) (n - k) (ne_eqb (get_or d (n - k) 0) 0 e)) ∙ ap (λ (i : ℕ). least (is_free d) i (n - k)) (sym s) ∙ h
+module _ (d : List ℕ) (n j whole : ℕ) (h : least (is_free d) (n - j) j ≡ whole) where
+  pub first-found : j < n → get_or d j 0 ≡ 0 → j ≡ whole
+  first-found l e = sym (least-found (is_free d) n j l (eq-eqb (get_or d j 0) 0 e)) ∙ h
 
-  pub left-none : k ≤ 0 → n ≡ whole
-  unfolding least
-  left-none l =
-      let z : k ≡ 0 = omega arith in
-      let j : n - k ≡ n = omega arith in
-      sym j ∙ ap (λ (i : ℕ). least (is_free d) i (n - k)) (sym z) ∙ h
+  pub first-on : j < n → (get_or d j 0 ≡ 0 → ⊥) → least (is_free d) (n - (j + 1)) (j + 1) ≡ whole
+  first-on l e = sym (least_step (is_free d) n j l (ne_eqb (get_or d j 0) 0 e)) ∙ h
+
+  pub first-none : j ≤ n → n ≤ j → n ≡ whole
+  first-none l e = let s : n ≡ j = omega arith in s ∙ sym (least-end (is_free d) n j e) ∙ h
 
 -- ---- a block, number by number: x is the number's count
 

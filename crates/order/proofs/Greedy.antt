@@ -18,7 +18,6 @@ use Rattle.lists.specs.Lists.{memb, is_below, Distinct}
 use Rattle.lists.specs.Inner.{Below}
 use Rattle.lists.specs.Tests.{count}
 use Rattle.order.proofs.Least.{least-hit, least-le, count-zero, count-some}
-use Rattle.order.specs.Least.{least}
 use Rattle.order.specs.Sort.{Forward, LexLe, Smallest}
 use Rattle.walks.proofs.Walks.{reach-trans}
 use Rattle.walks.specs.Walks.{Reach, here, step, Closed}

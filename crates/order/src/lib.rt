@@ -33,10 +33,8 @@ fn add_row(adj: &[u8; 65536], n: usize, u: usize, need: &mut [u16; 256])
     requires { (n ≤ 256) × (u < n) × Degrees (matrix adj.now) n u need.old }
     ensures { Row (matrix adj.now) n u need.old need.new }
 {
-    let mut w = 0;
-    while w < n {
+    for w in 0..n {
         need[w] = more(need[w], adj[u * 256 + w]);
-        w += 1;
     }
 }
 
@@ -45,10 +43,8 @@ fn settle(adj: &[u8; 65536], n: usize, v: usize, need: &mut [u16; 256])
     requires { (n ≤ 256) × (v < n) × Owed (matrix adj.now) n v need.old }
     ensures { Row (matrix adj.now) n v need.new need.old }
 {
-    let mut w = 0;
-    while w < n {
+    for w in 0..n {
         need[w] = less(need[w], adj[v * 256 + w]);
-        w += 1;
     }
 }
 
@@ -57,10 +53,8 @@ fn degrees(adj: &[u8; 65536], n: usize, need: &mut [u16; 256])
     requires { (n ≤ 256) × Degrees (matrix adj.now) n 0 need.old }
     ensures { Degrees (matrix adj.now) n n need.new }
 {
-    let mut u = 0;
-    while u < n {
+    for u in 0..n {
         add_row(adj, n, u, need);
-        u += 1;
     }
 }
 
@@ -79,10 +73,8 @@ fn none_free(need: &[u16; 256], j: usize) -> bool
     ensures { result ≡ every (busy need.now j) 32 }
 {
     let mut none = true;
-    let mut i = 0;
-    while i < BLOCK {
+    for i in 0..BLOCK {
         none = still(none, need[j + i]);
-        i += 1;
     }
     none
 }
@@ -93,6 +85,7 @@ fn left(n: usize, need: &[u16; 256]) -> usize
     ensures { (result ≤ n) × (least (is_free need.now) result (n - result) ≡ least (is_free need.now) n 0) }
 {
     let mut k = n;
+    // The form with `for` is no plainer: k falls by whole blocks, and what is left is the answer.
     while BLOCK <= k {
         if !none_free(need, n - k) {
             return k;
@@ -107,13 +100,10 @@ fn first(n: usize, need: &[u16; 256]) -> usize
     requires { n ≤ 256 }
     ensures { result ≡ least (is_free need.now) n 0 }
 {
-    let mut k = left(n, need);
-    while 0 < k {
-        let j = n - k;
+    for j in n - left(n, need)..n {
         if need[j] == 0 {
             return j;
         }
-        k -= 1;
     }
     n
 }
@@ -128,6 +118,7 @@ pub fn sort(adj: &[u8; 65536], n: usize, order: &mut [u32; 256]) -> bool
     degrees(adj, n, &mut need);
     let mut t = 0;
     let mut v = first(n, &need);
+    // Counts no index: each next number is the first free one, until there is none.
     while v < n {
         need[v] = PLACED;
         out[t] = v as u32;

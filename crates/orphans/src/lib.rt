@@ -12,7 +12,7 @@ ghost use Rattle.marks.specs.Marks.{is_marked, marked};
 ghost use Rattle.properties.specs.Properties.{twice};
 ghost use Rattle.properties.specs.Results.{orphan_vertices_result, endpoints_result};
 
-use layout::Answer;
+use layout::{Answer, Refusal};
 use listed_members::listed_marks;
 
 // The records that are not marked.
@@ -20,10 +20,8 @@ fn others(marks: &[bool; 256]) -> [bool; 256]
     ensures { ((k : ℕ) → k < vertex_limit → is_marked result k ≡ not (is_marked marks.now k)) }
 {
     let mut rest = [false; 256];
-    let mut k = 0;
-    while k < layout::VERTEX_LIMIT {
+    for k in 0..layout::VERTEX_LIMIT {
         rest[k] = !marks[k];
-        k += 1;
     }
     rest
 }
@@ -42,7 +40,7 @@ pub fn get_orphan_vertices(t: &[u32], out: &mut [u32]) -> Answer
     ensures { result_of result out.new ≡ on_formed t.now out.old (orphan_vertices_result out.old) }
 {
     if !well_formed::well_formed(t) {
-        return Answer::NotWellFormed;
+        return Err(Refusal::NotWellFormed);
     }
     list_orphans(t, out)
 }
@@ -68,11 +66,11 @@ fn list_two(t: &[u32], a: &[bool; 256], b: &[bool; 256], out: &mut [u32]) -> Ans
     let n = layout::vertex_count(t);
     let c = marks::count_marked(a, n) + marks::count_marked(b, n) + 2;
     if out.len() < c {
-        return Answer::NoRoom(c);
+        return Err(Refusal::NoRoom(c));
     }
     let k = write_counted(t, a, out);
     write_counted(t, b, &mut out[k..]);
-    Answer::Done(c)
+    Ok(c)
 }
 
 fn list_endpoints(t: &[u32], out: &mut [u32]) -> Answer
@@ -91,7 +89,7 @@ pub fn get_endpoints(t: &[u32], out: &mut [u32]) -> Answer
     ensures { result_of result out.new ≡ on_formed t.now out.old (endpoints_result out.old) }
 {
     if !well_formed::well_formed(t) {
-        return Answer::NotWellFormed;
+        return Err(Refusal::NotWellFormed);
     }
     list_endpoints(t, out)
 }

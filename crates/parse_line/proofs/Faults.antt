@@ -1,4 +1,5 @@
 -- The first numbers of a line; the first fault of what was read, or what it asks for; help. Assumes nothing.
+use Rattle.std.specs.Prelude.{Option, Some, None}
 use mathlib.Core.Path.{◌≡◌, refl, sym, ap, ◌∙◌}
 use mathlib.Core.Bool.{Bool, true, false, not}
 use mathlib.Core.List.{List, [], ◌∷◌}
@@ -9,8 +10,6 @@ use lib.Seq.{get_or-take}
 use borrow.Author.Tests.{not-true, not-false, lt-ltb, le-ltb, eq-eqb, ne_eqb}
 use Rattle.lists.specs.Lists.{same_list, word_at}
 use Rattle.lists.proofs.Parts.{part-tail}
-use Rattle.layout.specs.declared.Found.{Found}
-use Rattle.layout.specs.declared.Found.TheVariants.{At, Nothing}
 use Rattle.edits.specs.Results.{first_passing}
 use Rattle.commands.specs.declared.Command.{Command}
 use Rattle.commands.specs.declared.Command.TheVariants.{Help, HelpOn, Unknown, NotNumber, WrongCount, TooMany}
@@ -57,19 +56,19 @@ unfolding help_on
 help-alone [] e = refl
 help-alone (x ∷ xs) e = absurd (omega arith)
 
-help-on : (rest : List ℕ) (f : Found) → (length rest ≡ 0 → ⊥) → f ≡ first_passing (same_list (drop 1 rest)) names → help_by f ≡ help_on rest
+help-on : (rest : List ℕ) (f : Option ℕ) → (length rest ≡ 0 → ⊥) → f ≡ first_passing (same_list (drop 1 rest)) names → help_by f ≡ help_on rest
 unfolding help_on
 help-on [] f ne e = absurd (ne refl)
 help-on (x ∷ xs) f ne e = ap help_by e
 
-module _ (rest : List ℕ) (f : Found) (ne : length rest ≡ 0 → ⊥) (e : f ≡ first_passing (same_list (take (length rest - 1) (drop 1 rest))) names) where
+module _ (rest : List ℕ) (f : Option ℕ) (ne : length rest ≡ 0 → ⊥) (e : f ≡ first_passing (same_list (take (length rest - 1) (drop 1 rest))) names) where
   help-found : help_by f ≡ help_on rest
   help-found = help-on rest f ne (e ∙ ap (λ (l : List ℕ). first_passing (same_list l) names) (part-tail 1 rest))
 
-  pub help-at : (k : ℕ) → f ≡ At k → HelpOn k ≡ help_on rest
+  pub help-at : (k : ℕ) → f ≡ Some k → HelpOn k ≡ help_on rest
   unfolding help_by
   help-at k q = ap help_by (sym q) ∙ help-found
 
-  pub help-none : f ≡ Nothing → Unknown ≡ help_on rest
+  pub help-none : f ≡ None → Unknown ≡ help_on rest
   unfolding help_by
   help-none q = ap help_by (sym q) ∙ help-found

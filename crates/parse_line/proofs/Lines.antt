@@ -1,4 +1,5 @@
 -- A line read whole: what was read of its words is what it asks for. Assumes nothing.
+use Rattle.std.specs.Prelude.{Option, Some, None}
 use mathlib.Core.Path.{◌≡◌, refl, sym, ap, ◌∙◌}
 use mathlib.Core.Bool.{cond}
 use mathlib.Core.List.{List}
@@ -12,8 +13,6 @@ use Rattle.lists.specs.Lists.{all, word_at, over}
 use Rattle.lists.proofs.Cases.{on, on_below}
 use Rattle.lists.proofs.Chosen.{over_none, over-length}
 use Rattle.lists.proofs.Parts.{part-tail}
-use Rattle.layout.specs.declared.Found.{Found}
-use Rattle.layout.specs.declared.Found.TheVariants.{At, Nothing}
 use Rattle.commands.specs.declared.Command.{Command}
 use Rattle.commands.specs.declared.Command.TheVariants.{Unknown, WrongCount, TooMany}
 use Rattle.commands.specs.declared.Parsed.{Parsed}
@@ -63,39 +62,39 @@ module _ {ws : List (List ℕ)} {lent exit : List ℕ} {s : Scanned} (g : Scanni
 
 module _ (line lent exit : List ℕ) (s : Scanned) (at k : ℕ) (e : at ≡ length (name_at k)) (g : Scanning (words_behind (drop at line)) lent s exit)
     (sized : length lent ≡ most_numbers) (count : ℕ) (few : count ≡ min most_numbers s.seen) (command : Command) where
-  words : words_behind (drop at line) ≡ words_by line (At k)
+  words : words_behind (drop at line) ≡ words_by line (Some k)
   unfolding words_by behind_name
   words = ap (λ (n : ℕ). words_behind (drop n line)) e
 
-  parsed : command ≡ command_by line (At k) → ParsingAs (At k) line lent (record { command = command; count = count }) exit
+  parsed : command ≡ command_by line (Some k) → ParsingAs (Some k) line lent (record { command = command; count = count }) exit
   parsed q = record {
     command = q;
     count = few ∙ ap (min most_numbers) g.seen ∙ sym (length-take most_numbers (leading (words_behind (drop at line)))) ∙ ap (λ (ws : List (List ℕ)). length (take most_numbers (leading ws))) words;
     numbers = g.numbers ∙ ap (λ (ws : List (List ℕ)). over (take most_numbers (leading ws)) lent) words;
   }
 
-  pub parsed-help : k ≡ help_number → command ≡ help_on (take (length line - at) (drop at line)) → ParsingAs (At k) line lent (record { command = command; count = count }) exit
+  pub parsed-help : k ≡ help_number → command ≡ help_on (take (length line - at) (drop at line)) → ParsingAs (Some k) line lent (record { command = command; count = count }) exit
   unfolding command_by behind_name
   parsed-help h q = parsed (q ∙ rw (part-tail at line, eq-eqb k help_number h, e))
 
-  pub parsed-asked : (k ≡ help_number → ⊥) → command ≡ judged_by k s exit → ParsingAs (At k) line lent (record { command = command; count = count }) exit
+  pub parsed-asked : (k ≡ help_number → ⊥) → command ≡ judged_by k s exit → ParsingAs (Some k) line lent (record { command = command; count = count }) exit
   unfolding command_by behind_name
   parsed-asked ne q = parsed (q ∙ judged-is g sized k ∙ rw (ne_eqb k help_number ne, e))
 
 -- ---- any line
 
-module _ (line lent : List ℕ) (f : Found) (e : f ≡ named line) where
+module _ (line lent : List ℕ) (f : Option ℕ) (e : f ≡ named line) where
   by_name : {exit : List ℕ} {r : Parsed} → ParsingAs f line lent r exit → Parsing line lent r exit
   unfolding command_on numbers_on
   by_name p = record {
     command = p.command ∙ ap (command_by line) e;
-    count = p.count ∙ ap (λ (n : Found). length (take most_numbers (leading (words_by line n)))) e;
-    numbers = p.numbers ∙ ap (λ (n : Found). over (take most_numbers (leading (words_by line n))) lent) e;
+    count = p.count ∙ ap (λ (n : Option ℕ). length (take most_numbers (leading (words_by line n)))) e;
+    numbers = p.numbers ∙ ap (λ (n : Option ℕ). over (take most_numbers (leading (words_by line n))) lent) e;
   }
 
-  pub parsing-at : {exit : List ℕ} {r : Parsed} (k : ℕ) → f ≡ At k → ParsingAs (At k) line lent r exit → Parsing line lent r exit
+  pub parsing-at : {exit : List ℕ} {r : Parsed} (k : ℕ) → f ≡ Some k → ParsingAs (Some k) line lent r exit → Parsing line lent r exit
   parsing-at k q p = by_name (rw q p)
 
-  pub parsing-none : f ≡ Nothing → Parsing line lent (record { command = Unknown; count = 0 }) lent
+  pub parsing-none : f ≡ None → Parsing line lent (record { command = Unknown; count = 0 }) lent
   unfolding command_by words_by leading
   parsing-none q = by_name (rw q (record { command = refl; count = refl; numbers = sym (over_none lent) }))

@@ -1,7 +1,6 @@
 -- What a line asks for, by what was read of it. Assumes nothing.
-use Rattle.std.specs.Prelude.{◌≡◌, cond, List, ℕ, eqb, ltb, length, take}
+use Rattle.std.specs.Prelude.{◌≡◌, cond, List, ℕ, eqb, ltb, length, take, Option}
 use Rattle.lists.specs.Lists.{word_at, over}
-use Rattle.layout.specs.declared.Found.{Found}
 use Rattle.commands.specs.declared.Command.{Command}
 use Rattle.commands.specs.declared.Command.TheVariants.{NotNumber, WrongCount, TooMany}
 use Rattle.commands.specs.declared.Parsed.{Parsed}
@@ -18,7 +17,7 @@ judged_by k s numbers =
     (NotNumber s.fault)
 
 -- a line was read whose name is f
-pub record ParsingAs (f : Found) (line lent : List ℕ) (r : Parsed) (exit : List ℕ) : Type 0 where
+pub record ParsingAs (f : Option ℕ) (line lent : List ℕ) (r : Parsed) (exit : List ℕ) : Type 0 where
   pub command : r.command ≡ command_by line f
   pub count : r.count ≡ length (take most_numbers (leading (words_by line f)))
   pub numbers : exit ≡ over (take most_numbers (leading (words_by line f))) lent

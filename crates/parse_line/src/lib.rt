@@ -3,14 +3,12 @@
 
 ghost use Rattle.std.specs.Prelude.{◌≡◌, min, ◌≤◌, ◌<◌, length, take};
 ghost use Rattle.lists.specs.Lists.{word_at};
-ghost use Rattle.layout.specs.declared.Found.TheVariants.{At};
 ghost use Rattle.commands.specs.Commands.{most_numbers, command_count, help_on, Parsing};
 ghost use Rattle.commands.specs.Inner.{Opens};
 ghost use Rattle.parse_line.specs.Lines.{judged_by, ParsingAs};
 
 use command_words::Scanned;
 use commands::{Command, MOST, Parsed};
-use layout::Found;
 
 // The number of `help`.
 const HELP: usize = 31;
@@ -57,8 +55,8 @@ fn help_on(rest: &[u8]) -> Command
     }
     let f = commands::find_exact(&rest[1..]);
     match f {
-        Found::At(k) => Command::HelpOn(k),
-        Found::Nothing => Command::Unknown,
+        Some(k) => Command::HelpOn(k),
+        None => Command::Unknown,
     }
 }
 
@@ -75,7 +73,7 @@ fn at_most_all(n: usize) -> usize
 fn parse_as(k: usize, line: &[u8], numbers: &mut [u32; MOST]) -> Parsed
     requires opens { Opens line.now k }
     requires numbers_len { length numbers.old ≡ most_numbers }
-    ensures { ParsingAs (At k) line.now numbers.old result numbers.new }
+    ensures { ParsingAs (Some k) line.now numbers.old result numbers.new }
 {
     let at = commands::name_length(k);
     let s = command_words::scan(line, at, numbers);
@@ -95,8 +93,8 @@ pub fn parse(line: &[u8], numbers: &mut [u32; MOST]) -> Parsed
 {
     let f = commands::find_name(line);
     match f {
-        Found::At(k) => parse_as(k, line, numbers),
-        Found::Nothing => Parsed {
+        Some(k) => parse_as(k, line, numbers),
+        None => Parsed {
             command: Command::Unknown,
             count: 0,
         },

@@ -12,7 +12,7 @@ ghost use Rattle.wording.specs.Forms.{filled};
 ghost use Rattle.path_sheets.specs.Path.{entry_lines, walk_sheet, path_sheet, path_result};
 
 use dijkstra_connections::get_dijkstra_connections_with_cost;
-use layout::{Answer, Found, HyperedgeIndex, VertexIndex};
+use layout::{Answer, HyperedgeIndex, VertexIndex};
 use wording::put_form;
 
 // The weight of the hyperedge of a number.
@@ -22,8 +22,8 @@ fn weight_of(t: &[u32], e: u32) -> u32
 {
     let f = find::find_hyperedge(t, HyperedgeIndex(e));
     match f {
-        Found::Nothing => layout::hyperedge_weight(t, 0),
-        Found::At(j) => layout::hyperedge_weight(t, j),
+        None => layout::hyperedge_weight(t, 0),
+        Some(j) => layout::hyperedge_weight(t, j),
     }
 }
 
@@ -50,10 +50,8 @@ fn put_entries(
     ensures { page out.new result ≡ write (entry_lines form.now (read limit t.now) (drop from words.now)) (page out.old at) }
 {
     let mut next = at;
-    let mut i = from;
-    while 1 < words.len() - i {
-        next = put_entry(t, words[i], words[i + 1], form, out, next);
-        i += 2;
+    for pair in words[from..].chunks_exact(2) {
+        next = put_entry(t, pair[0], pair[1], form, out, next);
     }
     next
 }
@@ -127,11 +125,6 @@ pub fn put_path(
 {
     // the cost, the count, and at most 256 entries of two words
     let mut words = [0u32; 515];
-    let a = get_dijkstra_connections_with_cost(t, from, to, &mut words);
-    let r = layout::reply_of(a);
-    if r.number != 0 {
-        return a;
-    }
-    let k = r.detail as usize;
-    Answer::Done(put_worded(t, from.0, to.0, &words[0..k], plain, out, at))
+    let k = get_dijkstra_connections_with_cost(t, from, to, &mut words)?;
+    Ok(put_worded(t, from.0, to.0, &words[0..k], plain, out, at))
 }

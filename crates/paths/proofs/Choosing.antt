@@ -1,4 +1,5 @@
 -- The choices while the lists are gone through: one step more, one list more, all lists. Assumes nothing.
+use Rattle.std.specs.Prelude.{Some}
 use mathlib.Core.Path.{◌≡◌, refl, sym, ap, ap₂, ◌∙◌, subst}
 use mathlib.Core.Bool.{Bool, true, false, ◌||◌, cond}
 use mathlib.Core.List.{List}
@@ -14,7 +15,6 @@ use Rattle.lists.specs.Tests.{◌and◌}
 use Rattle.lists.specs.Lists.{any, Ascending, facing, word_at}
 use Rattle.lists.proofs.Cases.{on}
 use Rattle.lists.proofs.Tab.{length-tab, getD-tab}
-use Rattle.layout.specs.declared.Found.TheVariants.{At}
 use Rattle.layout.specs.Content.{Hyperedge, Table, live_vertices, position, no_hyperedge}
 use Rattle.layout.specs.Layout.{limit, vertex_limit, vertex_count, hyperedge_count, hyperedge_at, members_at, read}
 use Rattle.layout.specs.Inner.{Formed}
@@ -54,7 +54,7 @@ lighter-ext v w h zero k = refl
 lighter-ext v w h (suc c) k = rw (h k, h (suc c))
 
 module _ (ws : List ℕ) (f : Formed limit ws) (F G : ℕ → ℕ → ℕ) (h : ℕ → ℕ) (x y a b : ℕ)
-    (ea : position x (live_vertices (read limit ws)) ≡ At a) (eb : position y (live_vertices (read limit ws)) ≡ At b)
+    (ea : position x (live_vertices (read limit ws)) ≡ Some a) (eb : position y (live_vertices (read limit ws)) ≡ Some b)
     (grow : (u v : ℕ) → G u v ≡ cond (eqb x u and eqb y v) (h (F u v)) (F u v)) where
   values-step : (back : Bool) {c : List ℕ} → Values (among (read limit ws) (facing back F)) (vertex_count ws) c
       → Values (among (read limit ws) (facing back G)) (vertex_count ws) (set c (facing back cell a b) (h (get_or c (facing back cell a b) 0)))
@@ -105,7 +105,7 @@ so_far t j l x y = cond (any (is_step x y) (steps_of l)) (lighter (weight_by t) 
 -- the hyperedges before j are gone through, and of its list ms the members up to place i, whose record is a
 pub record Passing (ws : List ℕ) (back : Bool) (j : ℕ) (ms : List ℕ) (i a : ℕ) (c : List ℕ) : Type 0 where
   pub within : i < length ms
-  pub last : position (get_or ms i 0) (live_vertices (read limit ws)) ≡ At a
+  pub last : position (get_or ms i 0) (live_vertices (read limit ws)) ≡ Some a
   pub holds : Values (among (read limit ws) (facing back (so_far (read limit ws) j (take (suc i) ms)))) (vertex_count ws) c
 
 values-as : (ws : List ℕ) (back : Bool) (F G : ℕ → ℕ → ℕ) → ((u v : ℕ) → F u v ≡ G u v) → {c : List ℕ}
@@ -135,14 +135,14 @@ module _ (ws : List ℕ) (j : ℕ) (ms : List ℕ) where
       (take_all (suc i) ms l ∙ e ∙ sym (ap (λ (r : Hyperedge). r.members) (getD-tab (hyperedge_at limit ws) (hyperedge_count ws) j no_hyperedge h)))
 
 module _ {ws : List ℕ} {back : Bool} {j : ℕ} {ms : List ℕ} where
-  pub passing-first : {a : ℕ} {c : List ℕ} → 0 < length ms → position (get_or ms 0 0) (live_vertices (read limit ws)) ≡ At a → Choosing back ws j c
+  pub passing-first : {a : ℕ} {c : List ℕ} → 0 < length ms → position (get_or ms 0 0) (live_vertices (read limit ws)) ≡ Some a → Choosing back ws j c
       → Passing ws back j ms 0 a c
   passing-first h e w = record { within = h; last = e; holds = values-as ws back _ _ (so_far-first ws j ms) w }
 
   module _ {i a : ℕ} {c : List ℕ} (d : Passing ws back j ms i a c) where
     -- b is what `place` found of the next member, c' what `choose_step` made
     pub passing-more : Formed limit ws → (w : List ℕ) → Weights (read limit ws) (hyperedge_count ws) w → (k : ℕ) → k ≡ j + 1 → i + 1 < length ms
-        → (b : ℕ) → position (get_or ms (i + 1) 0) (live_vertices (read limit ws)) ≡ At b
+        → (b : ℕ) → position (get_or ms (i + 1) 0) (live_vertices (read limit ws)) ≡ Some b
         → (c' : List ℕ) → c' ≡ set c (facing back cell a b) (lighter (word_at w) (get_or c (facing back cell a b) 0) k) → Passing ws back j ms (i + 1) b c'
     passing-more f w hw k ek h b e c' q = record {
       within = h;

@@ -1,4 +1,5 @@
 -- What is written: words at a place, the entries of a walk, the costs from a record. Assumes nothing.
+use Rattle.std.specs.Prelude.{Ok, Err}
 use mathlib.Core.Path.{◌≡◌, refl, sym, ap, ap₂, ◌∙◌, subst}
 use mathlib.Core.Bool.{true, false}
 use mathlib.Core.List.{List, [], ◌∷◌, ◌++◌, map, append_assoc, append-nil}
@@ -21,7 +22,7 @@ use Rattle.lists.proofs.Maps.{map-length}
 use Rattle.lists.proofs.Flat.{flat-snoc, tab-getD}
 use Rattle.lists.proofs.Memb.{memb-getD, below-memb}
 use Rattle.lists.proofs.Tab.{tab-suc, getD-tab, length-tab}
-use Rattle.layout.specs.declared.Answer.TheVariants.{Done, NoRoom}
+use Rattle.layout.specs.declared.Refusal.TheVariants.{NoRoom}
 use Rattle.layout.specs.Content.{Hyperedge, Table, live_vertices, no_hyperedge}
 use Rattle.layout.specs.Layout.{limit, vertex_count, vertex_word, hyperedge_count, hyperedge_at, read_hyperedges, read}
 use Rattle.layout.specs.Inner.{Formed}
@@ -49,7 +50,7 @@ three-words out at a b c l =
 -- ---- the pair
 
 module _ (out : List ℕ) where
-  pub none_over : length out < 3 → result_of (NoRoom 3) out ≡ listed no_path out
+  pub none_over : length out < 3 → result_of (Err (NoRoom 3)) out ≡ listed no_path out
   none_over l = listed-over no_path out 3 refl l
 
   none-words : (d : List ℕ) → 3 ≤ length d → set (set (set d 0 0) 1 0) 2 0 ≡ over no_path d
@@ -59,7 +60,7 @@ module _ (out : List ℕ) where
   none-words (a ∷ b ∷ []) l = absurd (lt_irrefl 0 (omega arith))
   none-words (a ∷ b ∷ c ∷ d) l = refl
 
-  pub none-fits : 3 ≤ length out → result_of (Done 3) (set (set (set out 0 0) 1 0) 2 0) ≡ listed no_path out
+  pub none-fits : 3 ≤ length out → result_of (Ok 3) (set (set (set out 0 0) 1 0) 2 0) ≡ listed no_path out
   none-fits l = listed-fits no_path out 3 refl (set (set (set out 0 0) 1 0) 2 0) l (none-words out l)
 
 pub head-words : (cost count x : ℕ) (out : List ℕ) → 5 ≤ length out
@@ -172,12 +173,12 @@ module _ (ws : List ℕ) (i : ℕ) (cost steps : ℕ) (o : List ℕ) (h : Laid (
   needed =
       omega (arith, entries-length (read limit ws) (number_of (read limit ws) i) (map (number_of (read limit ws)) (take steps o)), map-length (number_of (read limit ws)) (take steps o), laid-size h f.shape.vertices-le)
 
-  pub walk-over : (out : List ℕ) → length out < 5 + steps * 2 → result_of (NoRoom (5 + steps * 2)) out ≡ listed walk_words out
+  pub walk-over : (out : List ℕ) → length out < 5 + steps * 2 → result_of (Err (NoRoom (5 + steps * 2))) out ≡ listed walk_words out
   walk-over out l = listed-over walk_words out (5 + steps * 2) needed l
 
   pub walk-fits : (out : List ℕ) → 5 + steps * 2 ≤ length out → i < vertex_count ws → (x : ℕ) → x ≡ get_or ws (vertex_word i) 0
       → (mid : List ℕ) → mid ≡ over (path_head cost (steps + 1) x) out → (exit : List ℕ) → exit ≡ over_at 5 (step_words (read limit ws) i (take steps o)) mid
-      → result_of (Done (5 + steps * 2)) exit ≡ listed walk_words out
+      → result_of (Ok (5 + steps * 2)) exit ≡ listed walk_words out
   walk-fits out l hi x ex mid em exit ee =
       listed-fits walk_words out (5 + steps * 2) needed exit l
       (ee ∙ laid_on (path_head cost (steps + 1) (number_of (read limit ws) i)) (step_words (read limit ws) i (take steps o)) out mid 5
@@ -284,10 +285,10 @@ module _ (ws : List ℕ) (x : ℕ) (m d : List ℕ)
     counted : k * 3 ≡ length (costs_from (read limit ws) x)
     counted = omega (arith, ek, ap (count (is_reached m)) en, keys_length (read limit ws) m d (vertex_count ws), ap length costs-are)
 
-    pub costs-over : length out < k * 3 → result_of (NoRoom (k * 3)) out ≡ listed (costs_from (read limit ws) x) out
+    pub costs-over : length out < k * 3 → result_of (Err (NoRoom (k * 3))) out ≡ listed (costs_from (read limit ws) x) out
     costs-over l = listed-over (costs_from (read limit ws) x) out (k * 3) counted l
 
-    pub costs-fits : k * 3 ≤ length out → (exit : List ℕ) → exit ≡ over (keys_below (read limit ws) m d n) out → result_of (Done (k * 3)) exit ≡ listed (costs_from (read limit ws) x) out
+    pub costs-fits : k * 3 ≤ length out → (exit : List ℕ) → exit ≡ over (keys_below (read limit ws) m d n) out → result_of (Ok (k * 3)) exit ≡ listed (costs_from (read limit ws) x) out
     costs-fits l exit e =
         listed-fits (costs_from (read limit ws) x) out (k * 3) counted exit l
         (e ∙ ap (λ (j : ℕ). over (keys_below (read limit ws) m d j) out) en ∙ ap (λ (w : List ℕ). over w out) (sym costs-are))

@@ -15,8 +15,8 @@ use Rattle.trays.specs.Trays.{tray_result}
 use Rattle.agreement.specs.Agreement.{Agrees, Promise, IsContract, AgreesBy}
 use Rattle.well_formed.proofs.well_formed.Kinds as well-formed
 use Rattle.well_formed.proofs.well_formed.Reads as well-formed-reads
-use Rattle.layout.proofs.reply_of.Kinds as reply-of
-use Rattle.layout.proofs.reply_of.Reads as reply-of-reads
+use Rattle.layout.proofs.ReplyFromAnswer.from.Kinds as reply-of
+use Rattle.layout.proofs.ReplyFromAnswer.from.Reads as reply-of-reads
 use Rattle.add_vertex.proofs.add_vertex.Kinds as add-vertex
 use Rattle.add_vertex.proofs.add_vertex.Reads as add-vertex-reads
 use Rattle.add_hyperedge.proofs.add_hyperedge.Kinds as add-hyperedge

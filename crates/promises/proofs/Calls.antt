@@ -1,5 +1,6 @@
 -- For every call: each refusal is given then and only then, by the first of its grounds that applies, and changes no lent word. What is judged
 -- is what the call's promise says that it leaves. Assumes nothing.
+use Rattle.std.specs.Prelude.{Ok, Err}
 use mathlib.Core.Path.{◌≡◌, refl}
 use mathlib.Core.Bool.{cond}
 use mathlib.Core.List.{List, [], ◌∷◌, ◌++◌, map, append-nil}
@@ -8,7 +9,7 @@ use lib.Dec.{eqb}
 use lib.ListN.{length, replicate}
 use Rattle.lists.specs.Tests.{bit}
 use Rattle.lists.specs.Lists.{flat, counted}
-use Rattle.layout.specs.declared.Answer.TheVariants.{Done, BadText}
+use Rattle.layout.specs.declared.Refusal.TheVariants.{BadText}
 use Rattle.layout.specs.Content.{Table, live_vertices, live_hyperedges}
 use Rattle.layout.specs.Layout.{vertex_limit, hyperedge_limit, limit, size, words, read}
 use Rattle.layout.specs.Answers.{Result, result_of, on_formed, on_live, listed, vertex_missing, hyperedge_missing, on_live_vertices}
@@ -76,7 +77,7 @@ pub merge-judged : (v w : ℕ) (ws : List ℕ) → Judged (merge_grounds v w ws)
 unfolding merge_result
 merge-judged v w ws =
     let t = read limit ws in
-    let fourteen = rw (append-nil (beside v w t)) at (apart-judged (none-refused {lent = ws} {r = result_of (Done 0) (words limit (merge_vertices v w t))} refl) v w t) in
+    let fourteen = rw (append-nil (beside v w t)) at (apart-judged (none-refused {lent = ws} {r = result_of (Ok 0) (words limit (merge_vertices v w t))} refl) v w t) in
     let thirteen = other-judged fourteen v w in
     formed-judged ws (merge_result v w ws) (live-judged thirteen (live_vertices t) vertex_missing (v ∷ w ∷ []))
 
@@ -89,19 +90,19 @@ pub tray-judged : (rs : List Withdrawal) (ws : List ℕ) → Judged (tray_ground
 unfolding tray_result first_passing
 tray-judged rs ws =
     let t = read limit ws in
-    let fifteen = rw (append-nil (faulty_records t rs)) at (faultless-judged (none-refused {lent = ws} {r = result_of (Done 0) (words limit (withdrawn (map asked rs) t))} refl) t zero rs) in
+    let fifteen = rw (append-nil (faulty_records t rs)) at (faultless-judged (none-refused {lent = ws} {r = result_of (Ok 0) (words limit (withdrawn (map asked rs) t))} refl) t zero rs) in
     formed-judged ws (tray_result rs ws) fifteen
 
 pub clear-judged : (ws : List ℕ) → Judged (unsized ws ∷ []) ws (clear_result ws)
 unfolding clear_result
-clear-judged ws = off-ground [] ws (result_of (Done 0) (replicate (size limit) 0)) (none-refused refl) (unsized ws) (eqb (length ws) (size limit)) refl
+clear-judged ws = off-ground [] ws (result_of (Ok 0) (replicate (size limit) 0)) (none-refused refl) (unsized ws) (eqb (length ws) (size limit)) refl
 
 pub read-judged : (text ws : List ℕ) → Judged (read_grounds text ws) ws (read_result text ws)
 unfolding read_result
 read-judged text ws =
-    let done = result_of (Done 0) (words limit (content_of text)) in
+    let done = result_of (Ok 0) (words limit (content_of text)) in
     let twelve = off-ground [] ws done (none-refused refl) (bad_text text) (accepted text) refl in
-    off-ground (bad_text text ∷ []) ws (cond (accepted text) done (result_of (BadText (faulty_line text)) ws)) twelve (unsized ws) (eqb (length ws) (size limit)) refl
+    off-ground (bad_text text ∷ []) ws (cond (accepted text) done (result_of (Err (BadText (faulty_line text))) ws)) twelve (unsized ws) (eqb (length ws) (size limit)) refl
 
 -- ---- the sort of a frame text
 
@@ -116,7 +117,7 @@ sort-text-judged text lent =
 -- ---- queries: what is answered after 1 is a number, or a listing, where the vertices asked are live
 
 module _ (ws : List ℕ) where
-  answering : (vs : List ℕ) (d : ℕ) (f : Table → Result) → f (content ws) ≡ on_live_vertices (content ws) vs [] (result_of (Done d) []) →
+  answering : (vs : List ℕ) (d : ℕ) (f : Table → Result) → f (content ws) ≡ on_live_vertices (content ws) vs [] (result_of (Ok d) []) →
       Judged (unformed ws ∷ (dead_vertices (content ws) vs ++ [])) [] (on_formed ws [] f)
   answering vs d f e = formed-judged ws f (rw e (live-judged (none-refused refl) (live_vertices (content ws)) vertex_missing vs))
 

@@ -1,18 +1,17 @@
 -- Each refusal is given then and only then, by the first that applies, and changes no lent word: for every entry point. Assumes nothing.
+use Rattle.std.specs.Prelude.{Option, Some, Ok, Err}
 use mathlib.Core.Path.{◌≡◌, refl, sym, ap, ◌∙◌}
 use mathlib.Core.Bool.{Bool, true, false, not, cond}
 use mathlib.Core.List.{List, [], ◌∷◌, ◌++◌, map}
-use mathlib.Core.Option.{Option, some, none}
+use mathlib.Core.Option.{Option as Maybe, some, none}
 use Prim.Native.Nat.{ℕ, suc}
 use native.Mathlib.Omega.{arith}
 use lib.ListN.{length}
 use Rattle.lists.specs.Tests.{◌and◌}
 use Rattle.lists.specs.Lists.{any, over}
 use Rattle.lists.proofs.Cases.{on}
-use Rattle.layout.specs.declared.Found.{Found}
-use Rattle.layout.specs.declared.Found.TheVariants.{At}
-use Rattle.layout.specs.declared.Answer.{Answer}
-use Rattle.layout.specs.declared.Answer.TheVariants.{Done, BadRecord}
+use Rattle.layout.specs.Answers.{Answer}
+use Rattle.layout.specs.declared.Refusal.TheVariants.{BadRecord}
 use Rattle.layout.specs.Content.{Hyperedge, Table, is_live}
 use Rattle.layout.specs.Layout.{limit, read}
 use Rattle.layout.specs.WellFormed.{well_formed}
@@ -30,7 +29,7 @@ module _ {gs : List Ground} {lent : List ℕ} {r : Result} (j : Judged gs lent r
   -- a refusal is one of the grounds', the first that applies
   pub only_then : (n : ℕ) → r.number ≡ suc n → (g : Ground) × (first gs ≡ some g) × (r ≡ result_of g.answer lent)
   only_then n e = by (first gs) refl where
-    by : (o : Option Ground) → first gs ≡ o → (g : Ground) × (first gs ≡ some g) × (r ≡ result_of g.answer lent)
+    by : (o : Maybe Ground) → first gs ≡ o → (g : Ground) × (first gs ≡ some g) × (r ≡ result_of g.answer lent)
     by none h = absurd (let z : suc n ≡ 0 = sym e ∙ j.done h in omega arith)
     by (some g) h = (g, h, j.refused g h)
 
@@ -122,7 +121,7 @@ module _ {gs : List Ground} {lent : List ℕ} {r : Result} (j : Judged gs lent r
   apart-judged v w t = first-judged (side_by_side v w) (by_number side_by_side_in) t.hyperedges
 
 -- 15, or what comes after
-fault-first : (b : Bool) (i : ℕ) (f : Found) (lent : List ℕ) (r : Result) → on_faultless (cond b (At i) f) lent r ≡ cond b (result_of (BadRecord i) lent) (on_faultless f lent r)
+fault-first : (b : Bool) (i : ℕ) (f : Option ℕ) (lent : List ℕ) (r : Result) → on_faultless (cond b (Some i) f) lent r ≡ cond b (result_of (Err (BadRecord i)) lent) (on_faultless f lent r)
 fault-first true i f lent r = refl
 fault-first false i f lent r = refl
 
@@ -142,7 +141,7 @@ formed-judged ws f {lent} {gs} j = off-ground gs lent (f (read limit ws)) j (unf
 pub listed-judged : (xs lent : List ℕ) → Judged (no_room xs lent ∷ []) lent (listed xs lent)
 unfolding listed
 listed-judged xs lent =
-    let done = result_of (Done (length xs)) (over xs lent) in
+    let done = result_of (Ok (length xs)) (over xs lent) in
     off-ground [] lent done (none-refused refl) (no_room xs lent) (fits xs lent) refl
 
 -- an identical one answers, and nothing behind it applies
@@ -167,5 +166,5 @@ pub new-judged : {gs : List Ground} {lent : List ℕ} {r : Result} → Judged gs
 unfolding any on_first
 new-judged {gs} j ms w [] = rw (all-apply gs) j
 new-judged {gs} {lent} j ms w (e ∷ es) = on (identical ms w e)
-    (λ h. rw h (answered gs lent (result_of (Done e.number) lent) refl))
+    (λ h. rw h (answered gs lent (result_of (Ok e.number) lent) refl))
     (λ h. rw h (new-judged j ms w es))

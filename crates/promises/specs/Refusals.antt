@@ -1,10 +1,10 @@
 -- The grounds of refusal, and what it is for a call to be refused by them. Assumes nothing.
-use Rattle.std.specs.Prelude.{◌≡◌, Bool, cond, not, List, [], ◌∷◌, ◌++◌, map, ℕ, zero, suc, eqb, length}
+use Rattle.std.specs.Prelude.{◌≡◌, Bool, cond, not, List, [], ◌∷◌, ◌++◌, map, ℕ, zero, suc, eqb, length, Err}
 use Rattle.std.proofs.Math.Option.{Option, some, none}
 use Rattle.lists.specs.Tests.{◌and◌}
 use Rattle.lists.specs.Lists.{any}
-use Rattle.layout.specs.declared.Answer.{Answer}
-use Rattle.layout.specs.declared.Answer.TheVariants.{NotWellFormed, NoMembers, SameMembers, TooManyMembers, Full, NumbersSpent, ClosedWalk, TooFewHyperedges, NoRoom, BadText, SameVertex, BadRecord}
+use Rattle.layout.specs.Answers.{Answer}
+use Rattle.layout.specs.declared.Refusal.TheVariants.{NotWellFormed, NoMembers, SameMembers, TooManyMembers, Full, NumbersSpent, ClosedWalk, TooFewHyperedges, NoRoom, BadText, SameVertex, BadRecord}
 use Rattle.layout.specs.Content.{Hyperedge, Table, live_vertices, live_hyperedges, is_live}
 use Rattle.layout.specs.Layout.{vertex_limit, hyperedge_limit, limit, size, read}
 use Rattle.layout.specs.WellFormed.{well_formed}
@@ -36,15 +36,15 @@ pub record Judged (gs : List Ground) (lent : List ℕ) (r : Result) : Type 0 whe
 
 -- 1: table not well formed
 abbrev pub unformed : List ℕ → Ground
-unformed ws = record { answer = NotWellFormed; applies = not (well_formed limit ws) }
+unformed ws = record { answer = (Err NotWellFormed); applies = not (well_formed limit ws) }
 
 -- 1, where only a wrong length counts
 abbrev pub unsized : List ℕ → Ground
-unsized ws = record { answer = NotWellFormed; applies = not (eqb (length ws) (size limit)) }
+unsized ws = record { answer = (Err NotWellFormed); applies = not (eqb (length ws) (size limit)) }
 
 -- 2: member list empty
 abbrev pub no_members : List ℕ → ℕ → Ground
-no_members ms d = record { answer = NoMembers d; applies = not (has_some ms) }
+no_members ms d = record { answer = Err (NoMembers d); applies = not (has_some ms) }
 
 -- what is not live, by the refusal that names it
 abbrev pub missing : List ℕ → (ℕ → Answer) → ℕ → Ground
@@ -60,39 +60,39 @@ dead_hyperedges t es = map (missing (live_hyperedges t) hyperedge_missing) es
 
 -- 5: new list equals the old
 abbrev pub same_members : ℕ → List ℕ → Table → Ground
-same_members x ms t = record { answer = SameMembers (record { 0 = x }); applies = equals_old x ms t }
+same_members x ms t = record { answer = Err (SameMembers (record { 0 = x })); applies = equals_old x ms t }
 
 -- 6: member list over the limit
 abbrev pub too_many : List ℕ → Ground
-too_many ms = record { answer = TooManyMembers (length ms); applies = not (is_short ms) }
+too_many ms = record { answer = Err (TooManyMembers (length ms)); applies = not (is_short ms) }
 
 -- 7: as many live as the limit
 abbrev pub full : ℕ → ℕ → Ground
-full live most = record { answer = Full; applies = not (has_room live most) }
+full live most = record { answer = (Err Full); applies = not (has_room live most) }
 
 -- 8: the next number is the one that is never given
 abbrev pub spent : ℕ → Ground
-spent next = record { answer = NumbersSpent; applies = is_spent next }
+spent next = record { answer = (Err NumbersSpent); applies = is_spent next }
 
 -- 9: steps form a closed walk
 abbrev pub closed_walk : Table → Ground
-closed_walk t = record { answer = ClosedWalk; applies = not (acyclic t) }
+closed_walk t = record { answer = (Err ClosedWalk); applies = not (acyclic t) }
 
 -- 10: fewer than two hyperedges to intersect
 abbrev pub too_few : List ℕ → Ground
-too_few es = record { answer = TooFewHyperedges; applies = is_few es }
+too_few es = record { answer = (Err TooFewHyperedges); applies = is_few es }
 
 -- 11: answer longer than the lent slice
 abbrev pub no_room : List ℕ → List ℕ → Ground
-no_room xs lent = record { answer = NoRoom (length xs); applies = not (fits xs lent) }
+no_room xs lent = record { answer = Err (NoRoom (length xs)); applies = not (fits xs lent) }
 
 -- 12: frame text bad
 abbrev pub bad_text : List ℕ → Ground
-bad_text text = record { answer = BadText (faulty_line text); applies = not (accepted text) }
+bad_text text = record { answer = Err (BadText (faulty_line text)); applies = not (accepted text) }
 
 -- 13: v is w
 abbrev pub same_vertex : ℕ → ℕ → Ground
-same_vertex v w = record { answer = SameVertex (record { 0 = v }); applies = is_same v w }
+same_vertex v w = record { answer = Err (SameVertex (record { 0 = v })); applies = is_same v w }
 
 -- 14: v and w stand side by side in the hyperedge
 abbrev pub beside_in : ℕ → ℕ → Hyperedge → Ground
@@ -104,7 +104,7 @@ beside v w t = map (beside_in v w) t.hyperedges
 
 -- 15: the record at place i is of another kind or not live
 abbrev pub faulty_record : Table → ℕ → Withdrawal → Ground
-faulty_record t i w = record { answer = BadRecord i; applies = is_faulty t w }
+faulty_record t i w = record { answer = Err (BadRecord i); applies = is_faulty t w }
 
 -- 15, for each record in turn, its place counted from i
 unfoldable pub faulty_from : Table → ℕ → List Withdrawal → List Ground

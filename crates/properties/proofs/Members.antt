@@ -1,4 +1,5 @@
 -- The count of a record's members, which is never 0; the loop that compares every count with one number. Assumes nothing.
+use Rattle.std.specs.Prelude.{Ok}
 use mathlib.Core.Path.{◌≡◌, refl, sym, ap, ◌∙◌}
 use mathlib.Core.Bool.{Bool, true, false, not}
 use mathlib.Core.List.{List, [], ◌∷◌, map}
@@ -15,7 +16,6 @@ use Rattle.lists.proofs.Tab.{length-tab, getD-tab}
 use Rattle.lists.proofs.Every.{every-on, every-no, every-end, all-tab}
 use Rattle.lists.proofs.Chosen.{over_none}
 use Rattle.lists.proofs.Stride.{stride}
-use Rattle.layout.specs.declared.Answer.TheVariants.{Done}
 use Rattle.layout.specs.Content.{hyperedge_number}
 use Rattle.layout.specs.Layout.{limit, hyperedge_limit, record_size, hyperedges_at, hyperedge_word, hyperedge_count, count_at, hyperedge_at, members_at, read_hyperedges, read}
 use Rattle.layout.specs.WellFormed.{well_formed}
@@ -49,9 +49,9 @@ no-orphans L ws f = ap (map hyperedge_number) (filter_none (has_count 0) (read_h
         (ne_eqb (length (members_at L ws i)) 0 (λ e. lt_irrefl 0 (omega (arith, members-count L ws f i h, count-pos L ws (hyperedge_count ws) i f.shape.records h))))
 
 -- r is what `well_formed` returned, and the code tested `!r`
-pub none-listed : (ws : List ℕ) (r : Bool) → r ≡ well_formed limit ws → not r ≡ false → (out : List ℕ) → result_of (Done 0) out ≡ on_formed ws out (orphan_hyperedges_result out)
+pub none-listed : (ws : List ℕ) (r : Bool) → r ≡ well_formed limit ws → not r ≡ false → (out : List ℕ) → result_of (Ok 0) out ≡ on_formed ws out (orphan_hyperedges_result out)
 none-listed ws r e h out =
-    on-formed ws r e out (orphan_hyperedges_result out) (result_of (Done 0) out) h
+    on-formed ws r e out (orphan_hyperedges_result out) (result_of (Ok 0) out) h
     (listed-fits (orphan_hyperedges (read limit ws)) out 0 (sym (ap length none)) out (omega arith) (sym (over_none out) ∙ ap (λ (xs : List ℕ). over xs out) (sym none)))
   where
     none : orphan_hyperedges (read limit ws) ≡ []

@@ -1,4 +1,5 @@
 -- Laws of one list written after another, and of a list with its count before it. Assumes nothing.
+use Rattle.std.specs.Prelude.{Ok, Err}
 use mathlib.Core.Path.{◌≡◌, refl, sym, ap, ap₂, ◌∙◌}
 use mathlib.Core.Bool.{Bool}
 use mathlib.Core.List.{List, [], ◌∷◌, ◌++◌, map}
@@ -9,7 +10,7 @@ use Rattle.lists.specs.Tests.{count, chosen}
 use Rattle.lists.specs.Lists.{over, counted, word_at}
 use Rattle.lists.proofs.Parts.{part-tail, back-tail}
 use Rattle.lists.proofs.Chosen.{over_none, over-more, over-part, over-length}
-use Rattle.layout.specs.declared.Answer.TheVariants.{Done, NoRoom}
+use Rattle.layout.specs.declared.Refusal.TheVariants.{NoRoom}
 use Rattle.layout.specs.Content.{live_vertices}
 use Rattle.layout.specs.Layout.{vertex_count, read}
 use Rattle.layout.specs.Answers.{result_of, listed}
@@ -69,7 +70,7 @@ module _ (L : ℕ) (ws : List ℕ) (a b : List Bool) (n x y : ℕ) (e : n ≡ ve
     counted-length L ws b n y e q,
   )
 
-  pub two-over : length out < x + y + 2 → result_of (NoRoom (x + y + 2)) out ≡ listed (twice (marked a (live_vertices (read L ws))) (marked b (live_vertices (read L ws)))) out
+  pub two-over : length out < x + y + 2 → result_of (Err (NoRoom (x + y + 2))) out ≡ listed (twice (marked a (live_vertices (read L ws))) (marked b (live_vertices (read L ws)))) out
   two-over h = listed-over _ out (x + y + 2) two-length h
 
   module _ (h : x + y + 2 ≤ length out) where
@@ -88,6 +89,6 @@ module _ (L : ℕ) (ws : List ℕ) (a b : List Bool) (n x y : ℕ) (e : n ≡ ve
       two-second = part_room mid k _ (omega (arith, mid-length, counted-length L ws a n x e p, counted-length L ws b n y e q))
 
       pub two_fits : (exit : List ℕ) → exit ≡ over (counted (marked b (live_vertices (read L ws)))) (take (length mid - k) (drop k mid))
-          → result_of (Done (x + y + 2)) (take k mid ++ (exit ++ drop (length mid - k) (drop k mid))) ≡ listed (twice (marked a (live_vertices (read L ws))) (marked b (live_vertices (read L ws)))) out
+          → result_of (Ok (x + y + 2)) (take k mid ++ (exit ++ drop (length mid - k) (drop k mid))) ≡ listed (twice (marked a (live_vertices (read L ws))) (marked b (live_vertices (read L ws)))) out
       unfolding twice
       two_fits exit v = listed-fits _ out (x + y + 2) two-length _ h (over-after _ _ out mid exit k d w v)

@@ -1,7 +1,6 @@
 -- What each query of properties answers and leaves; 1 comes before all by `on_formed`. Assumes nothing.
-use Rattle.std.specs.Prelude.{List, [], ℕ}
+use Rattle.std.specs.Prelude.{List, [], ℕ, Ok}
 use Rattle.lists.specs.Tests.{bit}
-use Rattle.layout.specs.declared.Answer.TheVariants.{Done}
 use Rattle.layout.specs.Content.{Table}
 use Rattle.layout.specs.Answers.{Result, result_of, listed}
 use Rattle.properties.specs.Properties.{orphan_vertices, orphan_hyperedges, uniform, endpoints, inclusions, nestedness}
@@ -20,7 +19,7 @@ endpoints_result out t = listed (endpoints t) out
 
 -- is_k_uniform: 1; then yes or no
 abbrev pub uniform_result : ℕ → Table → Result
-uniform_result k t = result_of (Done (bit (uniform k t))) []
+uniform_result k t = result_of (Ok (bit (uniform k t))) []
 
 -- get_inclusions: 1, 11
 abbrev pub inclusions_result : List ℕ → Table → Result

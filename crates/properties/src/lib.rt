@@ -9,16 +9,16 @@ ghost use Rattle.cut.specs.Cut.{cut_vertices_result};
 ghost use Rattle.properties.specs.Properties.{uniform};
 ghost use Rattle.properties.specs.Results.{orphan_hyperedges_result, uniform_result};
 
-use layout::Answer;
+use layout::{Answer, Refusal};
 
 // The hyperedges without members: a well-formed table has none.
 pub fn get_orphan_hyperedges(t: &[u32], out: &mut [u32]) -> Answer
     ensures { result_of result out.new ≡ on_formed t.now out.old (orphan_hyperedges_result out.old) }
 {
     if !well_formed::well_formed(t) {
-        return Answer::NotWellFormed;
+        return Err(Refusal::NotWellFormed);
     }
-    Answer::Done(0)
+    Ok(0)
 }
 
 // Every hyperedge has k members.
@@ -27,12 +27,10 @@ fn uniform(t: &[u32], k: usize) -> bool
     ensures { result ≡ uniform k (read limit t.now) }
 {
     let m = layout::hyperedge_count(t);
-    let mut j = 0;
-    while j < m {
+    for j in 0..m {
         if layout::member_count(t, j) != k {
             return false;
         }
-        j += 1;
     }
     true
 }
@@ -42,9 +40,9 @@ fn uniform_answer(t: &[u32], k: usize) -> Answer
     ensures { result_of result [] ≡ uniform_result k (read limit t.now) }
 {
     if uniform(t, k) {
-        return Answer::Done(1);
+        return Ok(1);
     }
-    Answer::Done(0)
+    Ok(0)
 }
 
 // Whether every hyperedge has k members, repeats counted.
@@ -52,7 +50,7 @@ pub fn is_k_uniform(t: &[u32], k: usize) -> Answer
     ensures { result_of result [] ≡ on_formed t.now [] (uniform_result k) }
 {
     if !well_formed::well_formed(t) {
-        return Answer::NotWellFormed;
+        return Err(Refusal::NotWellFormed);
     }
     uniform_answer(t, k)
 }
@@ -62,7 +60,7 @@ pub fn find_cut_vertices(t: &[u32], out: &mut [u32]) -> Answer
     ensures { result_of result out.new ≡ on_formed t.now out.old (cut_vertices_result out.old) }
 {
     if !well_formed::well_formed(t) {
-        return Answer::NotWellFormed;
+        return Err(Refusal::NotWellFormed);
     }
     cut_vertices::cut_vertices_formed(t, out)
 }

@@ -12,7 +12,6 @@ ghost use Rattle.reader.specs.Lines.{Valued, Sealed};
 ghost use Rattle.reader.specs.Passes.{Live};
 
 use frames::MEMBER_LENGTH;
-use layout::Found;
 use reader::{MEMBERS_AT, NUMBER_AT, WEIGHT_AT, number_at};
 
 // Where x stands among the vertices, if it does, by eight steps that do not wait for one another's outcome: a hint, of which nothing
@@ -23,6 +22,7 @@ fn place_near(words: &[u32], x: u32) -> usize
 {
     let mut p = 0;
     let mut half = 128;
+    // It counts no index: half is halved each turn.
     while 0 < half {
         if std::num::wrapping_sub_u32(layout::vertex_number(words, p + half), 1) < x {
             p += half;
@@ -49,11 +49,7 @@ pub fn is_live(words: &[u32], x: usize) -> bool
             return true;
         }
     }
-    let found = find::find_number(words, layout::VERTICES_AT, layout::VERTEX_SIZE, n, x as u32);
-    match found {
-        Found::At(_) => true,
-        Found::Nothing => false,
-    }
+    find::find_number(words, layout::VERTICES_AT, layout::VERTEX_SIZE, n, x as u32).is_some()
 }
 
 pub fn wide_word(x: u32) -> usize
@@ -99,11 +95,9 @@ pub fn put_members(
     ensures { Put to k (tab (member_in text.now at) k) words.old words.new result }
 {
     let mut next = to;
-    let mut i = 0;
-    while i < k {
+    for i in 0..k {
         let x = number_at(values, text, at + MEMBERS_AT + i * MEMBER_LENGTH);
         next = put_word(words, next, x);
-        i += 1;
     }
     next
 }

@@ -56,10 +56,8 @@ pub fn put_states(t: &[u32], s: &[u32], out: &mut [u8], at: usize) -> usize
 {
     let n = layout::vertex_count(t);
     let mut next = at;
-    let mut i = 0;
-    while i < n {
+    for i in 0..n {
         next = put_record(t, s, i, out, next);
-        i += 1;
     }
     next
 }

@@ -26,13 +26,9 @@ pub fn first(words: &[u32], n: usize) -> &[u32]
 fn put_answer(a: Answer, words: &[u32], q: Query, plain: bool, out: &mut [u8], at: usize) -> Answer
     ensures { result_of result out.new ≡ sheet_on (result_of a words.now) (query_sheet plain q) (page out.old at) }
 {
-    let reply = layout::reply_of(a);
-    if reply.number != 0 {
-        return a;
-    }
-    let n = reply.detail as usize;
+    let n = a?;
     let next = query_lines::put_sheet(q, plain, first(words, n), out, at);
-    Answer::Done(next)
+    Ok(next)
 }
 
 // The same, by way of the lent words.

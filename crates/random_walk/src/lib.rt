@@ -9,7 +9,7 @@ ghost use Rattle.layout.specs.Answers.{result_of, listed, on_formed};
 ghost use Rattle.walk.specs.Walk.{walk_from, step_limit, cut, first_state, walk, walk_result};
 
 use firsts::first_places;
-use layout::{Answer, Found, VertexIndex};
+use layout::{Answer, Refusal, VertexIndex};
 use membership::list_members;
 use walk::Walker;
 use walking::write_walk;
@@ -55,25 +55,22 @@ fn list_walk(t: &[u32], start: u32, steps: usize, seed: u64, out: &mut [u32]) ->
 {
     let n = cut(steps) + 1;
     if out.len() < n {
-        return Answer::NoRoom(n);
+        return Err(Refusal::NoRoom(n));
     }
     let w = Walker {
         at: start,
         state: first_state(seed),
     };
     lay_out_and_write(t, w, n, out);
-    Answer::Done(n)
+    Ok(n)
 }
 
 fn walk_formed(t: &[u32], start: VertexIndex, steps: usize, seed: u64, out: &mut [u32]) -> Answer
     requires { Formed limit t.now }
     ensures { result_of result out.new ≡ walk_result start.0 steps seed out.old (read limit t.now) }
 {
-    let f = find::find_vertex(t, start);
-    match f {
-        Found::Nothing => Answer::VertexNotLive(start),
-        Found::At(_) => list_walk(t, start.0, steps, seed, out),
-    }
+    find::find_vertex(t, start).ok_or(Refusal::VertexNotLive(start))?;
+    list_walk(t, start.0, steps, seed, out)
 }
 
 // The start and one vertex for each step.
@@ -87,7 +84,7 @@ pub fn random_walk(
     ensures { result_of result out.new ≡ on_formed t.now out.old (walk_result start.0 steps seed out.old) }
 {
     if !well_formed::well_formed(t) {
-        return Answer::NotWellFormed;
+        return Err(Refusal::NotWellFormed);
     }
     walk_formed(t, start, steps, seed, out)
 }

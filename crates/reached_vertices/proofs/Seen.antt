@@ -1,4 +1,5 @@
 -- The marks of a search without its start, and the vertices that they pick. Assumes nothing.
+use Rattle.std.specs.Prelude.{Option, Some}
 use mathlib.Core.Path.{◌≡◌, refl, sym, ap, ap₂, ◌∙◌}
 use mathlib.Core.Bool.{Bool, false, not}
 use mathlib.Core.List.{List}
@@ -10,8 +11,6 @@ use lib.Seq.{get_or-set_same, get_or-set_other}
 use borrow.Author.Tests.{eq-eqb, ne_eqb}
 use Rattle.lists.specs.Tests.{◌and◌, bit}
 use Rattle.lists.proofs.Cases.{on, on_same, and-true, and-false-right}
-use Rattle.layout.specs.declared.Found.{Found}
-use Rattle.layout.specs.declared.Found.TheVariants.{At}
 use Rattle.layout.specs.Content.{live_vertices, position}
 use Rattle.layout.specs.Layout.{limit, vertex_limit, vertex_count, read}
 use Rattle.layout.specs.Inner.{Formed}
@@ -83,7 +82,7 @@ module _ (ws : List ℕ) (f : Formed limit ws) (dir : Direction) (i : ℕ) (hi :
 
 -- ---- p is what `find_vertex` returned, x what `list_reached` answered and left
 
-module _ (ws : List ℕ) (v i : ℕ) (p : Found) (e : p ≡ position v (live_vertices (read limit ws))) (h : p ≡ At i) where
+module _ (ws : List ℕ) (v i : ℕ) (p : Option ℕ) (e : p ≡ position v (live_vertices (read limit ws))) (h : p ≡ Some i) where
   pub start-within : i < vertex_count ws
   start-within = (vertex-found limit ws v i (sym e ∙ h)).0
 

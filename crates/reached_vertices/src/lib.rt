@@ -12,7 +12,7 @@ ghost use Rattle.lookups.specs.declared.Direction.TheVariants.{From, To};
 ghost use Rattle.reached_vertices.specs.Reached.{reached_vertices, reached_result};
 ghost use Rattle.reached_vertices.specs.Inner.{steps_along, seen_beside, SeenAlong};
 
-use layout::{Answer, Found, VertexIndex};
+use layout::{Answer, Refusal, VertexIndex};
 use lookups::Direction;
 
 // The matrix of the steps, as they lead or turned.
@@ -44,10 +44,8 @@ fn others(seen: &[u8; 256], n: usize, i: usize) -> [bool; 256]
     ensures { ((k : ℕ) → k < n → is_marked result k ≡ seen_beside seen.now i k) }
 {
     let mut marks = [false; 256];
-    let mut k = 0;
-    while k < n {
+    for k in 0..n {
         marks[k] = seen[k] == 1;
-        k += 1;
     }
     marks[i] = false;
     marks
@@ -69,11 +67,8 @@ fn reached_formed(t: &[u32], v: VertexIndex, dir: Direction, out: &mut [u32]) ->
     requires { Formed limit t.now }
     ensures { result_of result out.new ≡ reached_result dir v.0 out.old (read limit t.now) }
 {
-    let f = find::find_vertex(t, v);
-    match f {
-        Found::Nothing => Answer::VertexNotLive(v),
-        Found::At(i) => list_reached(t, i, dir, out),
-    }
+    let i = find::find_vertex(t, v).ok_or(Refusal::VertexNotLive(v))?;
+    list_reached(t, i, dir, out)
 }
 
 // The other vertices from which the vertex is reached, ascending.
@@ -81,7 +76,7 @@ pub fn get_upstream_vertices(t: &[u32], v: VertexIndex, out: &mut [u32]) -> Answ
     ensures { result_of result out.new ≡ on_formed t.now out.old (reached_result To v.0 out.old) }
 {
     if !well_formed::well_formed(t) {
-        return Answer::NotWellFormed;
+        return Err(Refusal::NotWellFormed);
     }
     reached_formed(t, v, Direction::To, out)
 }
@@ -91,7 +86,7 @@ pub fn get_downstream_vertices(t: &[u32], v: VertexIndex, out: &mut [u32]) -> An
     ensures { result_of result out.new ≡ on_formed t.now out.old (reached_result From v.0 out.old) }
 {
     if !well_formed::well_formed(t) {
-        return Answer::NotWellFormed;
+        return Err(Refusal::NotWellFormed);
     }
     reached_formed(t, v, Direction::From, out)
 }

@@ -13,7 +13,7 @@ ghost use Rattle.reader.specs.Hyperedges.{VerticesStored};
 
 use head_line::{head_end, put_head};
 use hyperedge_lines::read_hyperedges;
-use layout::Answer;
+use layout::{Answer, Refusal};
 use reader::value_table;
 use vertex_lines::read_vertices;
 
@@ -22,11 +22,7 @@ pub fn copy_words(t: &mut [u32], words: &[u32])
     requires { length t.old ≡ length words.now }
     ensures { t.new ≡ words.now }
 {
-    let mut i = 0;
-    while i < words.len() {
-        t[i] = words[i];
-        i += 1;
-    }
+    t.copy_from_slice(words);
 }
 
 // Copies the words where no line is faulty.
@@ -45,9 +41,9 @@ fn answer_of(line: usize) -> Answer
     ensures { result ≡ answer_of line }
 {
     if line == 0 {
-        return Answer::Done(0);
+        return Ok(0);
     }
-    Answer::BadText(line)
+    Err(Refusal::BadText(line))
 }
 
 // Reads frame text into a table: 12 with the first line that no written text could have there, which changes no word.
@@ -55,7 +51,7 @@ pub fn read_frames(t: &mut [u32], text: &[u8]) -> Answer
     ensures { result_of result t.new ≡ read_result text.now t.old }
 {
     if t.len() != layout::SIZE {
-        return Answer::NotWellFormed;
+        return Err(Refusal::NotWellFormed);
     }
     let mut words = [0u32; layout::SIZE];
     let line = read_text(&mut words, text);

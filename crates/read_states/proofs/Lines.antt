@@ -46,14 +46,15 @@ module _ (text : List ℕ) (p i : ℕ) (le : p ≤ i) (plain : memb feed (take (
               ∙ ap (λ (l : List ℕ). l ∷ lines (drop (i + 1) text)) (sym (part-more ∙ ap (λ (c : ℕ). take (i - p) (drop p text) ++ (c ∷ [])) e));
         }
 
-  pub line-last : p < length text → length text ≤ i → i ≤ length text → LineAt text p i
+  pub line-last : p < length text → length text ≤ i → i ≤ length text → LineAt text p (length text)
   unfolding lines
   line-last b h k =
+      let here : length text ≡ i = omega arith in
       let all : take (i - p) (drop p text) ≡ drop p text = take_all (i - p) (drop p text) (omega (arith, length-drop p text)) in
-      record {
+      rw here (record {
         on = omega arith;
         within = k;
         first =
             lines-last (drop p text) (omega (arith, length-drop p text)) (ap (memb feed) (sym all) ∙ plain)
             ∙ ap₂ (λ (l : List ℕ) (r : List ℕ). l ∷ lines r) (sym all) (sym (drop_of_length-le text {i = i} h));
-      }
+      })

@@ -1,4 +1,5 @@
 -- The states as they are noted, line by line. Assumes nothing.
+use Rattle.std.specs.Prelude.{Option, Some, None, unwrap_or}
 use mathlib.Core.Path.{◌≡◌, refl, sym, ap, ◌∙◌}
 use mathlib.Core.Bool.{true}
 use mathlib.Core.List.{List, [], ◌∷◌, ◌++◌, append-nil}
@@ -9,14 +10,11 @@ use native.Mathlib.Omega.{arith}
 use lib.ListN.{length, take, drop, set, drop_of_length-le}
 use lib.Seq.{append_snoc}
 use borrow.Author.Tests.{lt-ltb, ltb-true}
-use Rattle.lists.specs.Tests.{◌and◌}
 use Rattle.lists.specs.Lists.{all, memb}
 use Rattle.lists.specs.Inner.{blank}
 use Rattle.lists.proofs.Cases.{on_same, clash, and_left, and_right, and_both}
 use Rattle.lists.proofs.All.{all_snoc}
 use Rattle.lists.proofs.Kept.{all_then}
-use Rattle.layout.specs.declared.Found.{Found}
-use Rattle.layout.specs.declared.Found.TheVariants.{At, Nothing}
 use Rattle.layout.specs.Content.{live_vertices, position}
 use Rattle.layout.specs.Layout.{limit, vertex_limit, read}
 use Rattle.layout.specs.Inner.{Formed}
@@ -35,25 +33,22 @@ use Rattle.read_states.specs.Noting.{LineAt, record_of, noted, number_below, Not
 
 -- ---- the record of a vertex: p is what `find_vertex` found
 
-module _ (v : ℕ) (live : List ℕ) (p : Found) (e : p ≡ position v live) where
-  pub record-found : (i : ℕ) → p ≡ At i → i ≡ record_of (position v live)
-  record-found i h = rw (← e, h)
-
-  pub record-none : p ≡ Nothing → vertex_limit ≡ record_of (position v live)
-  record-none h = rw (← e, h)
+pub record_found : (p : Option ℕ) → unwrap_or p vertex_limit ≡ record_of p
+record_found None = refl
+record_found (Some i) = refl
 
 module _ {ws : List ℕ} (f : Formed limit ws) (v i : ℕ) (x : ℕ) (ss : List ℕ) where
-  over_none : (p : Found) → position v (live_vertices (read limit ws)) ≡ p → i ≡ record_of p → vertex_limit ≤ i → ss ≡ noted p x ss
-  over_none (At j) e q h = absurd (lt_irrefl i (omega (arith, (vertex-found limit ws v j e).0, f.shape.vertices-le)))
-  over_none Nothing e q h = refl
+  over_none : (p : Option ℕ) → position v (live_vertices (read limit ws)) ≡ p → i ≡ record_of p → vertex_limit ≤ i → ss ≡ noted p x ss
+  over_none (Some j) e q h = absurd (lt_irrefl i (omega (arith, (vertex-found limit ws v j e).0, f.shape.vertices-le)))
+  over_none None e q h = refl
 
-  -- i is what `record_of_lem` gave
+  -- i is what `record_of` gave
   pub noted-none : i ≡ record_of (position v (live_vertices (read limit ws))) → vertex_limit ≤ i → ss ≡ noted (position v (live_vertices (read limit ws))) x ss
   noted-none e h = over_none (position v (live_vertices (read limit ws))) refl e h
 
-pub noted-at : (p : Found) (i x : ℕ) (ss : List ℕ) → i ≡ record_of p → i < vertex_limit → set ss i x ≡ noted p x ss
-noted-at (At j) i x ss e h = rw e
-noted-at Nothing i x ss e h = absurd (lt_irrefl i (omega arith))
+pub noted-at : (p : Option ℕ) (i x : ℕ) (ss : List ℕ) → i ≡ record_of p → i < vertex_limit → set ss i x ≡ noted p x ss
+noted-at (Some j) i x ss e h = rw e
+noted-at None i x ss e h = absurd (lt_irrefl i (omega arith))
 
 -- ---- what lines say with one more
 
@@ -90,13 +85,13 @@ module _ {ws : List ℕ} (f : Formed limit ws) where
     before-fits : states_fit (length (live_vertices (read limit ws))) (states_by (state_said past) (live_vertices (read limit ws))) ≡ true
     before-fits = states-by-fit (state_said past) (live_vertices (read limit ws)) (said-state past) few
 
-    states-more : (p : Found) → position (line_number l) (live_vertices (read limit ws)) ≡ p
+    states-more : (p : Option ℕ) → position (line_number l) (live_vertices (read limit ws)) ≡ p
         → noted p (line_state l) (states_by (state_said past) (live_vertices (read limit ws))) ≡ states_by (state_said (past ++ (l ∷ []))) (live_vertices (read limit ws))
     unfolding with_state
-    states-more Nothing e =
+    states-more None e =
         states-by-ext (state_said past) (state_said (past ++ (l ∷ []))) (live_vertices (read limit ws))
         (λ u m. sym (said-past l past u (λ q. clash (ap (λ (z : ℕ). memb z (live_vertices (read limit ws))) (sym q) ∙ m) (missing-dead (line_number l) (live_vertices (read limit ws)) e))))
-    states-more (At i) e =
+    states-more (Some i) e =
         let t = read limit ws in
         let ss : List ℕ = states_by (state_said past) (live_vertices t) in
         let v : ℕ = line_number l in

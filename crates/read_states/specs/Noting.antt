@@ -1,8 +1,6 @@
 -- What the code of the reader holds. Assumes nothing.
-use Rattle.std.specs.Prelude.{◌≡◌, Bool, true, List, ◌∷◌, ◌++◌, ℕ, ◌+◌, ◌-◌, ◌≤◌, ◌<◌, ltb, length, take, drop, set}
+use Rattle.std.specs.Prelude.{◌≡◌, Bool, true, List, ◌∷◌, ◌++◌, ℕ, ◌+◌, ◌-◌, ◌≤◌, ◌<◌, ltb, length, take, drop, set, Option, Some, None}
 use Rattle.lists.specs.Lists.{all}
-use Rattle.layout.specs.declared.Found.{Found}
-use Rattle.layout.specs.declared.Found.TheVariants.{At, Nothing}
 use Rattle.layout.specs.Content.{Table, live_vertices}
 use Rattle.layout.specs.Layout.{vertex_limit}
 use Rattle.desk.specs.States.{states_by}
@@ -15,14 +13,14 @@ pub record LineAt (text : List ℕ) (p r : ℕ) : Type 0 where
   pub first : lines (drop p text) ≡ take (r - p) (drop p text) ∷ lines (drop r text)
 
 -- the record that a search found; 256 where it found none
-abbrev pub record_of : Found → ℕ
-record_of (At i) = i
-record_of Nothing = vertex_limit
+abbrev pub record_of : Option ℕ → ℕ
+record_of (Some i) = i
+record_of None = vertex_limit
 
 -- a state is noted for the record that a search found; what is not live is passed over
-abbrev pub noted : Found → ℕ → List ℕ → List ℕ
-noted (At i) x ss = set ss i x
-noted Nothing x ss = ss
+abbrev pub noted : Option ℕ → ℕ → List ℕ → List ℕ
+noted (Some i) x ss = set ss i x
+noted None x ss = ss
 
 -- the number of the line is below the bound
 unfoldable pub number_below : ℕ → List ℕ → Bool

@@ -11,7 +11,7 @@ ghost use Rattle.states_text.specs.Reading.{read_states_result};
 ghost use Rattle.read_states.specs.Noting.{LineAt, record_of, noted, LinesRead};
 
 use desk::WAITING;
-use layout::{Answer, Found, VertexIndex};
+use layout::{Answer, Refusal, VertexIndex};
 use state_lines::judge;
 
 // The place behind the line that begins at p: behind its line feed, or the text's end.
@@ -19,14 +19,12 @@ fn line_end(text: &[u8], p: usize) -> usize
     requires { p < length text.now }
     ensures { LineAt text.now p result }
 {
-    let mut i = p;
-    while i < text.len() {
+    for i in p..text.len() {
         if text[i] == b'\n' {
             return i + 1;
         }
-        i += 1;
     }
-    i
+    text.len()
 }
 
 // The record of vertex v, or 256 where it is not live.
@@ -35,11 +33,7 @@ fn record_of(t: &[u32], v: u64) -> usize
     requires v_bound { v < 4294967296 }
     ensures { result ≡ record_of (position v (live_vertices (read limit t.now))) }
 {
-    let f = find::find_vertex(t, VertexIndex(v as u32));
-    match f {
-        Found::Nothing => 256,
-        Found::At(i) => i,
-    }
+    find::find_vertex(t, VertexIndex(v as u32)).unwrap_or(256)
 }
 
 // Notes the state of vertex v where it is live.
@@ -64,6 +58,7 @@ fn read_lines(t: &[u32], text: &[u8], ss: &mut [u32]) -> usize
     let mut p = 0;
     let mut low: u64 = 0;
     let mut k = 1;
+    // It counts no index: the text is walked line by line, each from where the one before it ends.
     while p < text.len() {
         let end = line_end(text, p);
         let said = judge(&text[p..end], low);
@@ -84,11 +79,7 @@ fn copy_states(s: &mut [u32], ss: &[u32])
     requires { length s.old ≡ length ss.now }
     ensures { s.new ≡ ss.now }
 {
-    let mut i = 0;
-    while i < ss.len() {
-        s[i] = ss[i];
-        i += 1;
-    }
+    s.copy_from_slice(ss);
 }
 
 fn read_formed(t: &[u32], text: &[u8], s: &mut [u32]) -> Answer
@@ -96,15 +87,15 @@ fn read_formed(t: &[u32], text: &[u8], s: &mut [u32]) -> Answer
     ensures { result_of result s.new ≡ read_states_result text.now s.old (read limit t.now) }
 {
     if s.len() != layout::VERTEX_LIMIT {
-        return Answer::NotWellFormed;
+        return Err(Refusal::NotWellFormed);
     }
     let mut ss = [0u32; 256];
     let line = read_lines(t, text, &mut ss);
     if line != 0 {
-        return Answer::BadText(line);
+        return Err(Refusal::BadText(line));
     }
     copy_states(s, &ss);
-    Answer::Done(0)
+    Ok(0)
 }
 
 // Reads the states of the table's vertices from a text: 12 with the first faulty line, which changes no word.
@@ -112,7 +103,7 @@ pub fn read_states(t: &[u32], text: &[u8], s: &mut [u32]) -> Answer
     ensures { result_of result s.new ≡ on_formed t.now s.old (read_states_result text.now s.old) }
 {
     if !well_formed::well_formed(t) {
-        return Answer::NotWellFormed;
+        return Err(Refusal::NotWellFormed);
     }
     read_formed(t, text, s)
 }

@@ -1,16 +1,18 @@
 -- Digits and their sums, as the code takes them from the text. Assumes nothing.
 use mathlib.Core.Path.{◌≡◌, refl, sym, ap, ◌∙◌}
-use mathlib.Core.Bool.{Bool, true, false, cond}
+use mathlib.Core.Bool.{Bool, true, cond}
 use mathlib.Core.Logic.{⊎_elim}
 use mathlib.Core.List.{List, [], ◌∷◌, ◌++◌}
-use Prim.Native.Nat.{ℕ, zero, suc, ◌+◌, ◌*◌, ◌≤◌, ◌<◌}
+use Prim.Native.Nat.{ℕ, zero, suc, ◌+◌, ◌-◌, ◌*◌, ◌≤◌, ◌<◌}
 use native.Mathlib.Nat.{le_antisymm}
 use native.Mathlib.Numerals.{add-one}
 use native.Mathlib.Omega.{arith}
-use lib.Dec.{ltb}
-use lib.ListN.{length, get_or, set, take, drop, replicate, length-set, length-replicate, length-drop, get_or-append}
-use lib.Seq.{get_or-set_same, get_or-set_other, get_or-take, get_or-drop, length-take-le, ext_get_or}
+use lib.Dec.{ltb, eqb}
+use lib.Pointwise.{pointwise}
+use lib.ListN.{length, get_or, set, take, drop, replicate, length-set, length-replicate}
+use lib.Seq.{get_or-set_same, get_or-set_other}
 use borrow.Author.Tests.{ltb-true, lt-ltb, le-ltb}
+use Rattle.lists.specs.Tests.{◌and◌}
 use Rattle.lists.specs.Lists.{all, is_below, same_list, sum_over}
 use Rattle.lists.proofs.Cases.{on, on_same, on_below, and_both}
 use Rattle.lists.proofs.All.{all-at, all_snoc}
@@ -18,7 +20,7 @@ use Rattle.frames.specs.Frames.{byte_values, byte_sum, digit}
 use Rattle.frames.specs.Reading.{no_value, value, byte_at, short_at, number_at, stands_at}
 use Rattle.frames.specs.Bytes.{bytes_at}
 use Rattle.frames.proofs.Lines.{sum-append}
-use Rattle.frames.proofs.Parse.{value-digit, value-cases, value-le, bytes-at, bytes-length, bytes-snoc, same_refl, stands-eq}
+use Rattle.frames.proofs.Parse.{value-digit, value-cases, value-le, bytes-at, bytes-length, bytes-snoc}
 use Rattle.reader.specs.Lines.{Valued, frame_sum}
 
 -- ---- the table of values: k digits have theirs
@@ -123,19 +125,16 @@ module _ (text : List ℕ) (p : ℕ) where
   unfolding frame_sum
   sum-end i k sum a b s = let q : i ≡ k = le_antisymm a b in rw (← q, s.low) s.is
 
--- ---- bytes compared: i of them are the same
+-- ---- bytes compared
 
-module _ (text : List ℕ) (p : ℕ) (xs : List ℕ) where
-  pub compared-no : (i : ℕ) → i < length xs → (get_or text (p + i) 0 ≡ get_or xs i 0 → ⊥) → false ≡ stands_at text p xs
-  compared-no i h n = on (stands_at text p xs)
-      (λ e. absurd (n (sym (get_or-drop p text i 0) ∙ ap (λ (l : List ℕ). get_or l i 0) (stands-eq text p xs e) ∙ get_or-append xs (drop (p + length xs) text) 0 i h)))
-      (λ e. sym e)
+-- what `==` answers
+compared : (xs ys : List ℕ) → pointwise eqb xs ys ≡ same_list xs ys
+unfolding same_list ◌and◌
+compared [] [] = refl
+compared [] (y ∷ ys) = refl
+compared (x ∷ xs) [] = refl
+compared (x ∷ xs) (y ∷ ys) = rw (compared xs ys) refl
 
-  pub compared-end : (i : ℕ) → p + length xs ≤ length text → ((j : ℕ) → j < i → get_or text (p + j) 0 ≡ get_or xs j 0) → length xs ≤ i → true ≡ stands_at text p xs
-  unfolding stands_at
-  compared-end i room f l =
-      let len : length (take (length xs) (drop p text)) ≡ length xs = length-take-le (length xs) (drop p text) (omega (arith, length-drop p text)) in
-      sym (ap (λ (ys : List ℕ). same_list ys xs)
-      (ext_get_or 0 (take (length xs) (drop p text)) xs len
-      (λ j h. get_or-take (length xs) (drop p text) j 0 (omega arith) ∙ get_or-drop p text j 0 ∙ f j (omega arith)))
-      ∙ same_refl xs)
+pub compared-at : (text : List ℕ) (p : ℕ) (xs : List ℕ) → pointwise eqb (take (p + length xs - p) (drop p text)) xs ≡ stands_at text p xs
+unfolding stands_at
+compared-at text p xs = let e : p + length xs - p ≡ length xs = omega arith in rw e (compared (take (length xs) (drop p text)) xs)

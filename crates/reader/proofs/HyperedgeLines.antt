@@ -132,7 +132,8 @@ hyperedges-none text ws p v e = record {
   same = v.same;
 }
 
-pub hyperedges-end : {text before after : List ℕ} {low at to i : ℕ} → HyperedgesSo text before after low at to i → HyperedgesRead text (hyperedges_due text) before after i at
+hyperedges-end : {text before after : List ℕ} {low at to i : ℕ} → HyperedgesSo text before after low at to i
+    → HyperedgesRead text (hyperedges_due text) before after i at
 hyperedges-end v = record {
   some = v.some;
   good = v.good;
@@ -183,8 +184,14 @@ module _ (text : List ℕ) (m next : ℕ) (em : m ≡ hyperedges_due text) (ex :
           same = column-kept f (omega (arith, v.word)) v.live ∙ v.same;
         }
 
-pub hyperedges-over : (text : List ℕ) (m i : ℕ) → m ≡ hyperedges_due text → m ≤ i → i < hyperedges_due text → hyperedge_good text i ≡ false
-hyperedges-over text m i e h l = absurd (omega arith)
+-- all m
+module _ (text : List ℕ) (m : ℕ) (e : m ≡ hyperedges_due text) where
+  pub hyperedges-all : {before after : List ℕ} {low at to i : ℕ} → HyperedgesSo text before after low at to i → m ≤ i
+      → HyperedgesRead text (hyperedges_due text) before after m at
+  hyperedges-all {i = i} v h = let q : m ≡ i = omega (arith, v.some) in rw q (hyperedges-end v)
+
+  pub hyperedges-over : m < hyperedges_due text → hyperedge_good text m ≡ false
+  hyperedges-over l = absurd (omega arith)
 
 pub hyperedges-word : {text before after : List ℕ} {low at to i m : ℕ} → HyperedgesSo text before after low at to i → i < m → m ≤ hyperedge_limit → to + record_size limit ≤ length after
 hyperedges-word v l h = omega (arith, v.word, v.live.sized)

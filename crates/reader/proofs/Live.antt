@@ -10,12 +10,10 @@ use Rattle.lists.specs.Lists.{all, memb, Ascending}
 use Rattle.lists.proofs.All.{all-on, all-no, all_end}
 use Rattle.lists.proofs.Memb.{memb-getD}
 use Rattle.lists.proofs.Tab.{length-tab, getD-tab}
-use Rattle.layout.specs.declared.Found.{Found}
-use Rattle.layout.specs.declared.Found.TheVariants.{At, Nothing}
-use Rattle.layout.specs.Content.{position, is_live}
+use Rattle.layout.specs.Content.{is_live}
 use Rattle.layout.specs.Layout.{vertices_at, vertex_size, vertex_word, vertex_count, next_vertex_in}
 use Rattle.layout.specs.Inner.{column, vertex_column}
-use Rattle.layout.proofs.Position.{found-live, missing-dead, dense-live}
+use Rattle.layout.proofs.Position.{dense-live}
 use Rattle.reader.specs.Passes.{Live}
 
 module _ (ws : List ℕ) (n : ℕ) (l : Live ws) (e : n ≡ vertex_count ws) where
@@ -37,12 +35,8 @@ module _ (ws : List ℕ) (n : ℕ) (l : Live ws) (e : n ≡ vertex_count ws) whe
       let z : get_or (vertex_column ws) p 0 ≡ x = getD-tab (λ j. get_or ws (vertices_at + j * vertex_size) 0) (vertex_count ws) p 0 k ∙ sym f ∙ sym u ∙ g in
       sym (ap (λ (i : ℕ). memb i (vertex_column ws)) (sym z) ∙ memb-getD (vertex_column ws) p (rw length-tab k))
 
-  module _ (x : ℕ) (p : Found) (q : p ≡ position x (column ws vertices_at vertex_size n)) where
-    pub live-found : (i : ℕ) → p ≡ At i → true ≡ is_live (vertex_column ws) x
-    live-found i h = sym (found-live x (vertex_column ws) i (ap (λ (k : ℕ). position x (column ws vertices_at vertex_size k)) (sym e) ∙ sym q ∙ h))
-
-    pub live-missing : p ≡ Nothing → false ≡ is_live (vertex_column ws) x
-    live-missing h = sym (missing-dead x (vertex_column ws) (ap (λ (k : ℕ). position x (column ws vertices_at vertex_size k)) (sym e) ∙ sym q ∙ h))
+  pub live-column : (x : ℕ) → is_live (column ws vertices_at vertex_size n) x ≡ is_live (vertex_column ws) x
+  live-column x = ap (λ (k : ℕ). is_live (column ws vertices_at vertex_size k) x) e
 
 -- ---- a list's members, one after the other: x is the one at i, and r what the code found of it
 

@@ -1,17 +1,17 @@
 -- A text read: what each way through the code has judged and made, and what the read then answers. Assumes nothing.
+use Rattle.std.specs.Prelude.{Ok, Err}
 use mathlib.Core.Path.{◌≡◌, sym, ap, ◌∙◌}
 use mathlib.Core.Bool.{true, false, cond}
 use mathlib.Core.List.{List}
 use Prim.Native.Nat.{ℕ, suc, ◌+◌, ◌≤◌, ◌<◌}
 use native.Mathlib.Nat.{le_antisymm}
 use native.Mathlib.Omega.{arith}
-use lib.ListN.{length, get_or, set, length-set}
-use lib.Seq.{get_or-set_same, get_or-set_other, ext_get_or}
+use lib.ListN.{length}
 use borrow.Author.Tests.{eq-eqb, ne_eqb}
 use Rattle.lists.specs.Tests.{every}
 use Rattle.lists.proofs.Cases.{on, on_same}
-use Rattle.layout.specs.declared.Answer.{Answer}
-use Rattle.layout.specs.declared.Answer.TheVariants.{Done, NotWellFormed, BadText}
+use Rattle.layout.specs.Answers.{Answer}
+use Rattle.layout.specs.declared.Refusal.TheVariants.{NotWellFormed, BadText}
 use Rattle.layout.specs.Layout.{limit, size, vertex_count, hyperedge_count}
 use Rattle.layout.specs.Answers.{result_of}
 use Rattle.frames.specs.Frames.{head_length}
@@ -133,27 +133,8 @@ module _ (text a b : List ℕ) (n m lines at : ℕ) (s : VerticesStored text a) 
 
 -- ---- the answer
 
--- the first i words are copied
-pub record Copied (ws t : List ℕ) (i : ℕ) : Type 0 where
-  pub sized : length t ≡ length ws
-  pub same : (j : ℕ) → j < i → get_or t j 0 ≡ get_or ws j 0
-
-pub copied_none : (ws t : List ℕ) → length t ≡ length ws → Copied ws t 0
-copied_none ws t e = record { sized = e; same = λ j h. absurd (omega arith) }
-
-pub copied_more : (ws t : List ℕ) (i : ℕ) → Copied ws t i → i < length ws → Copied ws (set t i (get_or ws i 0)) (i + 1)
-copied_more ws t i c h = record {
-  sized = length-set t i (get_or ws i 0) ∙ c.sized;
-  same = λ j l. on_same j i
-      (λ e. rw e (get_or-set_same t i (get_or ws i 0) 0 (omega (arith, c.sized))))
-      (λ e. get_or-set_other t i j (get_or ws i 0) 0 e ∙ c.same j (omega arith));
-}
-
-pub copied-end : (ws t : List ℕ) (i : ℕ) → Copied ws t i → length ws ≤ i → t ≡ ws
-copied-end ws t i c l = ext_get_or 0 t ws c.sized (λ j h. c.same j (omega (arith, c.sized)))
-
 module _ (text lent : List ℕ) where
-  pub answer-unsized : (length lent ≡ size limit → ⊥) → result_of NotWellFormed lent ≡ read_result text lent
+  pub answer-unsized : (length lent ≡ size limit → ⊥) → result_of (Err NotWellFormed) lent ≡ read_result text lent
   unfolding read_result
   answer-unsized n = rw (ne_eqb (length lent) (size limit) n)
 
@@ -185,10 +166,10 @@ module _ (line : ℕ) where
   unfolding stored_read
   stored-words ws lent out h e = rw (eq-eqb line 0 (omega arith)) e
 
-  pub answer-none : line ≡ 0 → Done 0 ≡ answer_of line
+  pub answer-none : line ≡ 0 → Ok 0 ≡ answer_of line
   unfolding answer_of
   answer-none e = rw (eq-eqb line 0 e)
 
-  pub answer-line : (line ≡ 0 → ⊥) → BadText line ≡ answer_of line
+  pub answer-line : (line ≡ 0 → ⊥) → Err (BadText line) ≡ answer_of line
   unfolding answer_of
   answer-line n = rw (ne_eqb line 0 n)

@@ -94,15 +94,17 @@ module _ (text : List ℕ) (n next : ℕ) (en : n ≡ vertices_due text) (ex : n
               (put-append v.put (rw v.place at f));
         }
 
-  pub vertices-end : {before after : List ℕ} {low at to i : ℕ} → VerticesSo text before after low at to i → n ≤ i → VerticesRead text before after i at
-  vertices-end v h = record {
-    some = v.some;
-    good = v.good;
-    reached = v.place;
-    within = v.within;
-    put = rw (← v.word) v.put;
-    stopped = λ l. absurd (omega arith);
-  }
+  pub vertices-end : {before after : List ℕ} {low at to i : ℕ} → VerticesSo text before after low at to i → n ≤ i → VerticesRead text before after n at
+  vertices-end {i = i} v h =
+      let e : n ≡ i = omega (arith, v.some) in
+      rw e (record {
+        some = v.some;
+        good = v.good;
+        reached = v.place;
+        within = v.within;
+        put = rw (← v.word) v.put;
+        stopped = λ l. absurd (omega arith);
+      })
 
 -- the head's counts and numbers, as they stand in the words
 module _ {text ws : List ℕ} (h : HeadStored text ws) (n : ℕ) (e : n ≡ vertex_count ws) where

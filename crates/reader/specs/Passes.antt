@@ -1,10 +1,10 @@
 -- What stands in the words that are being read into, and what a pass over the lines of a kind has judged and stored. Assumes nothing.
-use Rattle.std.specs.Prelude.{ℕ, ◌+◌, ◌-◌, ◌*◌, ◌≤◌, ◌<◌, ◌≡◌, true, false, cond, List, [], ◌∷◌, ◌++◌, eqb, length, get_or}
+use Rattle.std.specs.Prelude.{ℕ, ◌+◌, ◌-◌, ◌*◌, ◌≤◌, ◌<◌, ◌≡◌, true, false, cond, List, [], ◌∷◌, ◌++◌, eqb, length, get_or, Ok, Err}
 use Rattle.lists.specs.Tests.{every}
 use Rattle.lists.specs.Lists.{tab, flat, pad, Ascending}
 use Rattle.lists.specs.Inner.{blank}
-use Rattle.layout.specs.declared.Answer.{Answer}
-use Rattle.layout.specs.declared.Answer.TheVariants.{Done, BadText}
+use Rattle.layout.specs.Answers.{Answer}
+use Rattle.layout.specs.declared.Refusal.TheVariants.{BadText}
 use Rattle.layout.specs.Layout.{limit, size, vertex_limit, hyperedge_limit, vertex_size, record_size, vertices_at, vertex_word, next_vertex_in, next_hyperedge_in, vertex_count, hyperedge_count, vertex_words, words}
 use Rattle.layout.specs.Inner.{vertex_column}
 use Rattle.frames.specs.Put.{Put}
@@ -66,4 +66,4 @@ stored_read line ws lent = cond (eqb line 0) ws lent
 
 -- done, or 12 with the faulty line
 unfoldable pub answer_of : ℕ → Answer
-answer_of line = cond (eqb line 0) (Done 0) (BadText line)
+answer_of line = cond (eqb line 0) (Ok 0) (Err (BadText line))

@@ -34,11 +34,9 @@ pub fn value_table() -> [u16; 256]
     ensures { Valued result }
 {
     let mut values = [256u16; 256];
-    let mut k = 0;
-    while k < 16 {
+    for k in 0..16 {
         let c = frames::digit(k);
         values[c as usize] = k as u16;
-        k += 1;
     }
     values
 }

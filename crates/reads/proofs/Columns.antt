@@ -1,4 +1,5 @@
 -- Laws of the loop that writes a column of words, and the columns that are listed. Assumes nothing.
+use Rattle.std.specs.Prelude.{Ok, Err}
 use mathlib.Core.Path.{◌≡◌, sym, ap, ◌∙◌}
 use mathlib.Core.List.{List}
 use Prim.Native.Nat.{ℕ, ◌+◌, ◌*◌, ◌≤◌, ◌<◌}
@@ -8,7 +9,7 @@ use lib.ListN.{length, get_or, set}
 use Rattle.lists.specs.Lists.{over}
 use Rattle.lists.proofs.Tab.{length-tab, getD-tab, tab-ext}
 use Rattle.lists.proofs.Parts.{part-words}
-use Rattle.layout.specs.declared.Answer.TheVariants.{Done, NoRoom}
+use Rattle.layout.specs.declared.Refusal.TheVariants.{NoRoom}
 use Rattle.layout.specs.Content.{live_vertices, live_hyperedges}
 use Rattle.layout.specs.Layout.{limit, vertex_size, record_size, vertices_at, hyperedges_at, hyperedge_word, vertex_count, hyperedge_count, count_at, members_at, read}
 use Rattle.layout.specs.Inner.{column, Formed}
@@ -29,10 +30,10 @@ module _ (ws : List ℕ) (base step n : ℕ) {out₀ out : List ℕ} {i : ℕ} (
 -- ---- 11, or the listing
 
 module _ (ws : List ℕ) (base step n : ℕ) (out : List ℕ) where
-  pub column-over : length out < n → result_of (NoRoom n) out ≡ listed (column ws base step n) out
+  pub column-over : length out < n → result_of (Err (NoRoom n)) out ≡ listed (column ws base step n) out
   column-over h = listed-over _ out n (sym (length-tab _ n)) h
 
-  pub column_fits : (exit : List ℕ) → n ≤ length out → exit ≡ over (column ws base step n) out → result_of (Done n) exit ≡ listed (column ws base step n) out
+  pub column_fits : (exit : List ℕ) → n ≤ length out → exit ≡ over (column ws base step n) out → result_of (Ok n) exit ≡ listed (column ws base step n) out
   column_fits exit h e = listed-fits _ out n (sym (length-tab _ n)) exit h e
 
 -- ---- which columns: n and m are what `vertex_count` and `hyperedge_count` returned, r what `list_column` answered and left

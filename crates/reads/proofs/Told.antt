@@ -1,19 +1,15 @@
--- What is told of the vertex, or of the hyperedge, that a search found or did not find. Assumes nothing.
+-- What is told of the vertex, or of the hyperedge, that a search found. Assumes nothing.
+use Rattle.std.specs.Prelude.{Option, Some, Ok}
 use mathlib.Core.Path.{◌≡◌, sym, ap, ◌∙◌}
-use mathlib.Core.List.{List, [], ◌∷◌}
+use mathlib.Core.List.{List, []}
 use Prim.Native.Nat.{ℕ, ◌<◌}
 use native.Mathlib.Omega.{arith}
 use lib.ListN.{get_or}
 use Rattle.lists.proofs.Tab.{getD-tab}
-use Rattle.layout.specs.declared.HyperedgeIndex.{HyperedgeIndex}
-use Rattle.layout.specs.declared.Found.{Found}
-use Rattle.layout.specs.declared.Found.TheVariants.{At, Nothing}
-use Rattle.layout.specs.declared.Answer.TheVariants.{Done, HyperedgeNotLive}
 use Rattle.layout.specs.Content.{Vertex, Hyperedge, live_vertices, live_hyperedges, no_vertex, no_hyperedge, position, place}
 use Rattle.layout.specs.Layout.{limit, vertex_limit, hyperedge_limit, vertex_count, hyperedge_count, vertex_at, hyperedge_at, members_at, read_vertices, read_hyperedges, read}
 use Rattle.layout.specs.Inner.{Formed}
-use Rattle.layout.specs.Answers.{Result, result_of, on_live, vertex_missing, hyperedge_missing, listed}
-use Rattle.layout.proofs.Answers.{on-missing}
+use Rattle.layout.specs.Answers.{Result, result_of, vertex_missing, hyperedge_missing, listed}
 use Rattle.layout.proofs.Read.{vertex-found, hyperedge-found}
 use Rattle.edits.proofs.UpdateHyperedge.{members-found}
 use Rattle.lookups.proofs.Found.{found-done, found-same}
@@ -21,7 +17,7 @@ use Rattle.reads.specs.Reads.{vertex_weight, hyperedge_weight, vertex_weight_res
 
 -- ---- p is what `find_vertex` returned
 
-module _ (ws : List ℕ) (v i : ℕ) (p : Found) (e : p ≡ position v (live_vertices (read limit ws))) (h : p ≡ At i) where
+module _ (ws : List ℕ) (v i : ℕ) (p : Option ℕ) (e : p ≡ position v (live_vertices (read limit ws))) (h : p ≡ Some i) where
   pub vertex-within : Formed limit ws → i < vertex_limit
   vertex-within f = omega (arith, (vertex-found limit ws v i (sym e ∙ h)).0, f.shape.vertices-le)
 
@@ -29,21 +25,16 @@ module _ (ws : List ℕ) (v i : ℕ) (p : Found) (e : p ≡ position v (live_ver
   unfolding vertex_weight
   weight-here =
       ap (λ (x : Vertex). x.weight) (sym (getD-tab (vertex_at ws) (vertex_count ws) i no_vertex (vertex-found limit ws v i (sym e ∙ h)).0))
-      ∙ ap (λ (q : Found). (get_or (read_vertices ws) (place q) no_vertex).weight) (sym h ∙ e)
+      ∙ ap (λ (q : Option ℕ). (get_or (read_vertices ws) (place q) no_vertex).weight) (sym h ∙ e)
 
   -- x is the word, y the same as a detail
-  pub vertex-told : (x y : ℕ) → x ≡ (vertex_at ws i).weight → y ≡ x → result_of (Done y) [] ≡ vertex_weight_result v (read limit ws)
+  pub vertex-told : (x y : ℕ) → x ≡ (vertex_at ws i).weight → y ≡ x → result_of (Ok y) [] ≡ vertex_weight_result v (read limit ws)
   unfolding vertex_weight_result
   vertex-told x y a b = found-done (live_vertices (read limit ws)) vertex_missing v [] p i e h y (vertex_weight v (read limit ws)) (b ∙ a ∙ weight-here)
 
 -- ---- p is what `find_hyperedge` returned
 
--- the refusal names the hyperedge
-pub hyperedge-missing : (live : List ℕ) (x : HyperedgeIndex) (lent : List ℕ) (r : Result) (p : Found) → p ≡ position x.0 live → p ≡ Nothing
-    → result_of (HyperedgeNotLive x) lent ≡ on_live live hyperedge_missing (x.0 ∷ []) lent r
-hyperedge-missing live x lent r p e h = on-missing live hyperedge_missing x.0 lent r p e h
-
-module _ (ws : List ℕ) (x j : ℕ) (p : Found) (e : p ≡ position x (live_hyperedges (read limit ws))) (h : p ≡ At j) where
+module _ (ws : List ℕ) (x j : ℕ) (p : Option ℕ) (e : p ≡ position x (live_hyperedges (read limit ws))) (h : p ≡ Some j) where
   pub hyperedge-within : j < hyperedge_count ws
   hyperedge-within = (hyperedge-found limit ws x j (sym e ∙ h)).0
 
@@ -54,10 +45,10 @@ module _ (ws : List ℕ) (x j : ℕ) (p : Found) (e : p ≡ position x (live_hyp
   unfolding hyperedge_weight
   cost-here =
       ap (λ (y : Hyperedge). y.weight) (sym (getD-tab (hyperedge_at limit ws) (hyperedge_count ws) j no_hyperedge hyperedge-within))
-      ∙ ap (λ (q : Found). (get_or (read_hyperedges limit ws) (place q) no_hyperedge).weight) (sym h ∙ e)
+      ∙ ap (λ (q : Option ℕ). (get_or (read_hyperedges limit ws) (place q) no_hyperedge).weight) (sym h ∙ e)
 
   -- w is the word, y the same as a detail
-  pub hyperedge-told : (w y : ℕ) → w ≡ (hyperedge_at limit ws j).weight → y ≡ w → result_of (Done y) [] ≡ hyperedge_weight_result x (read limit ws)
+  pub hyperedge-told : (w y : ℕ) → w ≡ (hyperedge_at limit ws j).weight → y ≡ w → result_of (Ok y) [] ≡ hyperedge_weight_result x (read limit ws)
   unfolding hyperedge_weight_result
   hyperedge-told w y a b = found-done (live_hyperedges (read limit ws)) hyperedge_missing x [] p j e h y (hyperedge_weight x (read limit ws)) (b ∙ a ∙ cost-here)
 

@@ -9,7 +9,7 @@ ghost use Rattle.layout.specs.Answers.{result_of, listed, on_formed};
 ghost use Rattle.reads.specs.Reads.{vertex_weight_result, hyperedge_weight_result, members_result, vertices_result, hyperedges_result};
 
 use layout::{
-    Answer, Found, HYPEREDGES_AT, HyperedgeIndex, RECORD_SIZE, VERTEX_SIZE, VERTICES_AT,
+    Answer, HYPEREDGES_AT, HyperedgeIndex, RECORD_SIZE, Refusal, VERTEX_SIZE, VERTICES_AT,
     VertexIndex,
 };
 
@@ -19,10 +19,8 @@ fn write_column(t: &[u32], base: usize, step: usize, n: usize, out: &mut [u32])
     requires n_in_bounds { n ≤ length out.old }
     ensures { out.new ≡ over (column t.now base step n) out.old }
 {
-    let mut i = 0;
-    while i < n {
+    for i in 0..n {
         out[i] = t[base + i * step];
-        i += 1;
     }
 }
 
@@ -32,21 +30,18 @@ fn list_column(t: &[u32], base: usize, step: usize, n: usize, out: &mut [u32]) -
     ensures { result_of result out.new ≡ listed (column t.now base step n) out.old }
 {
     if out.len() < n {
-        return Answer::NoRoom(n);
+        return Err(Refusal::NoRoom(n));
     }
     write_column(t, base, step, n, out);
-    Answer::Done(n)
+    Ok(n)
 }
 
 fn vertex_weight_formed(t: &[u32], v: VertexIndex) -> Answer
     requires { Formed limit t.now }
     ensures { result_of result [] ≡ vertex_weight_result v.0 (read limit t.now) }
 {
-    let f = find::find_vertex(t, v);
-    match f {
-        Found::Nothing => Answer::VertexNotLive(v),
-        Found::At(i) => Answer::Done(layout::wide(layout::vertex_weight(t, i))),
-    }
+    let i = find::find_vertex(t, v).ok_or(Refusal::VertexNotLive(v))?;
+    Ok(layout::wide(layout::vertex_weight(t, i)))
 }
 
 // The weight of a vertex.
@@ -54,7 +49,7 @@ pub fn get_vertex_weight(t: &[u32], v: VertexIndex) -> Answer
     ensures { result_of result [] ≡ on_formed t.now [] (vertex_weight_result v.0) }
 {
     if !well_formed::well_formed(t) {
-        return Answer::NotWellFormed;
+        return Err(Refusal::NotWellFormed);
     }
     vertex_weight_formed(t, v)
 }
@@ -63,11 +58,8 @@ fn hyperedge_weight_formed(t: &[u32], e: HyperedgeIndex) -> Answer
     requires { Formed limit t.now }
     ensures { result_of result [] ≡ hyperedge_weight_result e.0 (read limit t.now) }
 {
-    let f = find::find_hyperedge(t, e);
-    match f {
-        Found::Nothing => Answer::HyperedgeNotLive(e),
-        Found::At(j) => Answer::Done(layout::wide(layout::hyperedge_weight(t, j))),
-    }
+    let j = find::find_hyperedge(t, e).ok_or(Refusal::HyperedgeNotLive(e))?;
+    Ok(layout::wide(layout::hyperedge_weight(t, j)))
 }
 
 // The weight of a hyperedge.
@@ -75,7 +67,7 @@ pub fn get_hyperedge_weight(t: &[u32], e: HyperedgeIndex) -> Answer
     ensures { result_of result [] ≡ on_formed t.now [] (hyperedge_weight_result e.0) }
 {
     if !well_formed::well_formed(t) {
-        return Answer::NotWellFormed;
+        return Err(Refusal::NotWellFormed);
     }
     hyperedge_weight_formed(t, e)
 }
@@ -95,11 +87,8 @@ fn members_formed(t: &[u32], e: HyperedgeIndex, out: &mut [u32]) -> Answer
     requires { Formed limit t.now }
     ensures { result_of result out.new ≡ members_result e.0 out.old (read limit t.now) }
 {
-    let f = find::find_hyperedge(t, e);
-    match f {
-        Found::Nothing => Answer::HyperedgeNotLive(e),
-        Found::At(j) => list_members(t, j, out),
-    }
+    let j = find::find_hyperedge(t, e).ok_or(Refusal::HyperedgeNotLive(e))?;
+    list_members(t, j, out)
 }
 
 // The members of a hyperedge, in their order.
@@ -107,7 +96,7 @@ pub fn get_hyperedge_vertices(t: &[u32], e: HyperedgeIndex, out: &mut [u32]) -> 
     ensures { result_of result out.new ≡ on_formed t.now out.old (members_result e.0 out.old) }
 {
     if !well_formed::well_formed(t) {
-        return Answer::NotWellFormed;
+        return Err(Refusal::NotWellFormed);
     }
     members_formed(t, e, out)
 }
@@ -125,7 +114,7 @@ pub fn get_vertices(t: &[u32], out: &mut [u32]) -> Answer
     ensures { result_of result out.new ≡ on_formed t.now out.old (vertices_result out.old) }
 {
     if !well_formed::well_formed(t) {
-        return Answer::NotWellFormed;
+        return Err(Refusal::NotWellFormed);
     }
     vertices_formed(t, out)
 }
@@ -143,7 +132,7 @@ pub fn get_hyperedges(t: &[u32], out: &mut [u32]) -> Answer
     ensures { result_of result out.new ≡ on_formed t.now out.old (hyperedges_result out.old) }
 {
     if !well_formed::well_formed(t) {
-        return Answer::NotWellFormed;
+        return Err(Refusal::NotWellFormed);
     }
     hyperedges_formed(t, out)
 }

@@ -47,10 +47,8 @@ fn put_each_tube(t: &[u32], s: &[u32], form: &[u8], out: &mut [u8], at: usize) -
 {
     let n = layout::vertex_count(t);
     let mut next = at;
-    let mut i = 0;
-    while i < n {
+    for i in 0..n {
         next = put_tube(t, s, i, form, out, next);
-        i += 1;
     }
     next
 }
@@ -88,10 +86,8 @@ pub fn put_transfers(t: &[u32], form: &[u8], out: &mut [u8], at: usize) -> usize
 {
     let m = layout::hyperedge_count(t);
     let mut next = at;
-    let mut j = 0;
-    while j < m {
+    for j in 0..m {
         next = put_transfer(t, j, form, out, next);
-        j += 1;
     }
     next
 }
@@ -102,12 +98,10 @@ fn is_listed(t: &[u32], v: u32) -> bool
     ensures { result ≡ any (lists v) (read limit t.now).hyperedges }
 {
     let m = layout::hyperedge_count(t);
-    let mut j = 0;
-    while j < m {
+    for j in 0..m {
         if lookups::holds(layout::members_formed(t, j), v) {
             return true;
         }
-        j += 1;
     }
     false
 }
@@ -132,10 +126,8 @@ fn put_each_listing(t: &[u32], v: u32, form: &[u8], out: &mut [u8], at: usize) -
 {
     let m = layout::hyperedge_count(t);
     let mut next = at;
-    let mut j = 0;
-    while j < m {
+    for j in 0..m {
         next = put_listing(t, v, j, form, out, next);
-        j += 1;
     }
     next
 }

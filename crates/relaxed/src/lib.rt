@@ -94,9 +94,7 @@ pub fn relax(
 {
     let base = d[u];
     let end = counts[u] as usize;
-    let mut i = 0;
-    while i < end {
+    for i in 0..end {
         relax_one(c, w, n, u, lists[u * 256 + i] as usize, base, m, d, b);
-        i += 1;
     }
 }

@@ -8,7 +8,7 @@ use desk_order::desk_accept_order;
 use desk_release::desk_release;
 use desk_removals::desk_remove_vertex;
 use desk_review::desk_review;
-use layout::{Answer, VertexIndex};
+use layout::{Answer, Reply, VertexIndex};
 use std::io;
 
 fn print(rt: &impl Print, text: &str) -> io::Result<()> {
@@ -37,7 +37,7 @@ fn print_ground(rt: &impl Print, number: u32) -> io::Result<()> {
 }
 
 fn print_answer(rt: &impl Print, a: Answer) -> io::Result<()> {
-    let r = layout::reply_of(a);
+    let r = Reply::from(a);
     if r.number == 0 {
         return print(rt, ": done\n");
     }
@@ -59,7 +59,7 @@ fn print_state(rt: &impl Print, state: u64) -> io::Result<()> {
 }
 
 fn register(rt: &impl Print, t: &mut [u32], s: &mut [u32], weight: u32) -> io::Result<()> {
-    let r = layout::reply_of(desk_add_vertex(t, s, weight));
+    let r = Reply::from(desk_add_vertex(t, s, weight));
     print(rt, "registered: tube ")?;
     print_number(rt, r.detail)?;
     print(rt, "\n")
@@ -96,7 +96,7 @@ fn withdraw(rt: &impl Print, t: &mut [u32], s: &mut [u32], v: u32) -> io::Result
 }
 
 fn look(rt: &impl Print, t: &[u32], s: &[u32], v: u32) -> io::Result<()> {
-    let r = layout::reply_of(desk_state(t, s, VertexIndex(v)));
+    let r = Reply::from(desk_state(t, s, VertexIndex(v)));
     print(rt, "tube ")?;
     print_number(rt, v as u64)?;
     if r.number == 0 {

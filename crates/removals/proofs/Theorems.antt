@@ -1,4 +1,5 @@
 -- What every list of removals keeps to, repeats and unknown numbers included. Assumes nothing.
+use Rattle.std.specs.Prelude.{Err}
 use mathlib.Core.Path.{◌≡◌, refl, sym, ap, ◌∙◌}
 use mathlib.Core.Bool.{Bool, true, false}
 use mathlib.Core.List.{List, [], ◌∷◌, ◌++◌}
@@ -7,7 +8,7 @@ use Rattle.lists.specs.Tests.{◌and◌}
 use Rattle.lists.specs.Lists.{any}
 use Rattle.lists.proofs.Cases.{and_right, and-false-right}
 use Rattle.walks.specs.Walks.{Reach, Closed}
-use Rattle.layout.specs.declared.Answer.TheVariants.{NotWellFormed}
+use Rattle.layout.specs.declared.Refusal.TheVariants.{NotWellFormed}
 use Rattle.layout.specs.Content.{Table, live_vertices, live_hyperedges, is_live}
 use Rattle.layout.specs.Layout.{limit, read, words}
 use Rattle.layout.specs.WellFormed.{well_formed}
@@ -91,7 +92,7 @@ emptied-refused rs x ws formed d =
     hyperedge-refused (remove_all rs ws) (removals-formed ws formed rs) x (removals-hyperedge ws formed rs x ∙ and-false-right (stays_hyperedge rs x) _ d)
 
 -- words that are no table are refused, and nothing changes
-pub removal-unformed : (r : Removal) (ws : List ℕ) → well_formed limit ws ≡ false → removal r ws ≡ result_of NotWellFormed ws
+pub removal-unformed : (r : Removal) (ws : List ℕ) → well_formed limit ws ≡ false → removal r ws ≡ result_of (Err NotWellFormed) ws
 unfolding removal on_formed
 removal-unformed (vertex v) ws u = rw u
 removal-unformed (hyperedge x) ws u = rw u

@@ -9,7 +9,7 @@ ghost use Rattle.layout.specs.Answers.{on_formed, result_of};
 ghost use Rattle.edits.specs.Results.{remove_hyperedge_result};
 
 use edits::shift::shift_down;
-use layout::{Answer, Found, HyperedgeIndex};
+use layout::{Answer, HyperedgeIndex, Refusal};
 
 // Takes out record j of the m hyperedge records.
 fn drop_hyperedge(t: &mut [u32], j: usize, m: usize)
@@ -26,22 +26,17 @@ fn remove_formed(t: &mut [u32], e: HyperedgeIndex) -> Answer
     requires { Formed limit t.old }
     ensures { result_of result t.new ≡ remove_hyperedge_result e.0 t.old (read limit t.old) }
 {
-    let f = find::find_hyperedge(t, e);
-    match f {
-        Found::Nothing => Answer::HyperedgeNotLive(e),
-        Found::At(j) => {
-            let m = layout::hyperedge_count(t);
-            drop_hyperedge(t, j, m);
-            Answer::Done(0)
-        }
-    }
+    let j = find::find_hyperedge(t, e).ok_or(Refusal::HyperedgeNotLive(e))?;
+    let m = layout::hyperedge_count(t);
+    drop_hyperedge(t, j, m);
+    Ok(0)
 }
 
 pub fn remove_hyperedge(t: &mut [u32], e: HyperedgeIndex) -> Answer
     ensures { result_of result t.new ≡ on_formed t.old t.old (remove_hyperedge_result e.0 t.old) }
 {
     if !well_formed::well_formed(t) {
-        return Answer::NotWellFormed;
+        return Err(Refusal::NotWellFormed);
     }
     remove_formed(t, e)
 }

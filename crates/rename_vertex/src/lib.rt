@@ -22,10 +22,8 @@ fn rename_words(t: &mut [u32], a: usize, n: usize, v: u32, w: u32)
     requires { a + n ≤ length t.old }
     ensures { t.new ≡ paste t.old a (map (read_as v w) (take n (drop a t.old))) n }
 {
-    let mut i = 0;
-    while i < n {
+    for i in 0..n {
         t[a + i] = read_as(t[a + i], v, w);
-        i += 1;
     }
 }
 
@@ -45,9 +43,7 @@ pub fn rename_vertex(t: &mut [u32], v: u32, w: u32)
     ensures { t.new ≡ words limit (rename_vertex v w (read limit t.old)) }
 {
     let m = layout::hyperedge_count(t);
-    let mut j = 0;
-    while j < m {
+    for j in 0..m {
         rename_record(t, j, v, w);
-        j += 1;
     }
 }

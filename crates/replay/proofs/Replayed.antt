@@ -5,7 +5,7 @@ use Rattle.lists.specs.Tests.{◌and◌}
 use Rattle.lists.specs.Lists.{over}
 use Rattle.lists.proofs.Tab.{length-tab}
 use Rattle.layout.specs.Layout.{limit}
-use Rattle.layout.specs.declared.Answer.{Answer}
+use Rattle.layout.specs.Answers.{Answer}
 use Rattle.layout.specs.Answers.{Result, number, detail, result_of, on_formed}
 use Rattle.edits.specs.Results.{add_vertex_result, add_hyperedge_result, update_result, remove_vertex_result, merge_result, remove_hyperedge_result, clear_result}
 use Rattle.replay.specs.declared.Value.{Value}

@@ -45,7 +45,7 @@ pub fn answer(s: &[u8], at: usize, a: Answer, f: usize, tally: &mut [u32]) -> us
     ensures { after_count result tally.new ≡ counted_at f (answer_at s.now at (number a) (detail a)) tally.old }
 {
     let g = given(s, at);
-    count(tally, f, same_reply(layout::reply_of(a), g));
+    count(tally, f, same_reply(Reply::from(a), g));
     g.at
 }
 
@@ -150,7 +150,7 @@ pub fn listing(s: &[u8], at: usize, a: Answer, out: &[u32], f: usize, tally: &mu
     ensures { after_count result tally.new ≡ counted_at f (listing_at s.now at (number a) (detail a) out.now) tally.old }
 {
     let g = given(s, at);
-    let same = same_reply(layout::reply_of(a), g);
+    let same = same_reply(Reply::from(a), g);
     if g.number != 0 {
         count(tally, f, same);
         return g.at;

@@ -98,12 +98,10 @@ fn fill(s: &[u8], at: usize, list: &mut [u32], n: usize) -> usize
     ensures { (result ≡ after_words s.now at n) × (list.new ≡ over (tab (word_number s.now at) n) list.old) }
 {
     let mut here = at;
-    let mut k = 0;
-    while k < n {
+    for k in 0..n {
         let w = word(s, here);
         list[k] = w.value;
         here = w.at;
-        k += 1;
     }
     here
 }
@@ -139,6 +137,7 @@ fn read_full<R: Read>(from: &mut R, bytes: &mut [u8]) -> io::Result<usize>
     ensures { ReadsAtMost result bytes.new }
 {
     let mut done = 0;
+    // counts no index: a turn goes on by as many bytes as the read handed over
     while done < bytes.len() {
         let n = from.read(&mut bytes[done..])?;
         if n == 0 {

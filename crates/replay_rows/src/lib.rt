@@ -83,7 +83,7 @@ pub fn answer(
     ensures { after_count result tally.new ≡ counted_at f (path_at s.now at (number a) (detail a) from to out.now) tally.old }
 {
     let g = given(s, at);
-    let r = layout::reply_of(a);
+    let r = Reply::from(a);
     if g.number != 0 {
         count(tally, f, same_reply(r, g));
         return g.at;
@@ -152,7 +152,7 @@ pub fn listing(s: &[u8], at: usize, a: Answer, out: &[u32], f: usize, tally: &mu
     ensures { after_count result tally.new ≡ counted_at f (lists_read s.now at (number a) (detail a) out.now) tally.old }
 {
     let g = given(s, at);
-    let same = same_reply(layout::reply_of(a), g);
+    let same = same_reply(Reply::from(a), g);
     if g.number != 0 {
         count(tally, f, same);
         return g.at;

@@ -132,11 +132,11 @@ fn record(s: &[u8], at: usize, t: &mut [u32], out: &mut [u32], tally: &mut [u32]
 // Every record has a byte, so there are no more records than bytes.
 fn records(s: &[u8], t: &mut [u32], out: &mut [u32], tally: &mut [u32]) -> usize {
     let mut at = 0;
-    let mut turns = s.len();
-    while turns > 0 && at < s.len() {
-        let next = record(s, at, t, out, tally);
-        at = next;
-        turns -= 1;
+    for _ in 0..s.len() {
+        if at >= s.len() {
+            break;
+        }
+        at = record(s, at, t, out, tally);
     }
     at
 }

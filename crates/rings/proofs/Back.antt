@@ -62,7 +62,7 @@ before-ext E F n p q y h g = least-ext (leads_to E p y) (leads_to F q y) n 0 (λ
 pub before-marked : (E : ℕ → ℕ → Bool) (n x : ℕ) (marks : List ℕ) → Marks n marks (bfs E n x) → (y : ℕ) → before E n (flagged marks) y ≡ before E n (reached E n x) y
 before-marked E n x marks m y = before-ext E E n (flagged marks) (reached E n x) y (λ j _. refl) (flags-reached E n x marks m)
 
--- ---- the loop over x: r and marks are what `comes_back_lem` gave
+-- ---- the loop over x: r and marks are what `comes_back` gave
 
 module _ (E : ℕ → ℕ → Bool) (n : ℕ) where
   pub lowest-first : least (comes_back E n) (n - 0) 0 ≡ lowest E n

@@ -17,7 +17,7 @@ use Rattle.graph.specs.Bfs.{bfs}
 use Rattle.graph.specs.Held.{Marks}
 use Rattle.components.specs.Classes.{reached}
 use Rattle.components.specs.Parts.{flagged}
-use Rattle.rings.specs.Search.{before, comes_back, lowest, up_through, go_back, ring_from, ring_of}
+use Rattle.rings.specs.Search.{before, comes_back, up_through, go_back, ring_from, ring_of}
 use Rattle.rings.specs.State.{Begun, passed, Going, Copied, Stands}
 use Rattle.rings.proofs.Passed.{passed-yes, passed-no, passed-part, passed_none}
 use Rattle.rings.proofs.Back.{before-marked, before-below, before-kept, reached-self}

@@ -24,12 +24,10 @@ fn before(adj: &[u8; 65536], n: usize, marks: &[u8; 256], y: usize) -> usize
     requires { (n ≤ 256) × (y < n) }
     ensures { result ≡ before (matrix adj.now) n (flagged marks.now) y }
 {
-    let mut j = 0;
-    while j < n {
+    for j in 0..n {
         if leads_to(adj, marks, y, j) {
             return j;
         }
-        j += 1;
     }
     n
 }
@@ -48,12 +46,10 @@ fn lowest(adj: &[u8; 65536], n: usize, marks: &mut [u8; 256]) -> usize
     requires { n ≤ 256 }
     ensures { Begun (matrix adj.now) n result marks.new }
 {
-    let mut x = 0;
-    while x < n {
+    for x in 0..n {
         if comes_back(adj, n, x, marks) {
             return x;
         }
-        x += 1;
     }
     n
 }
@@ -63,12 +59,10 @@ fn met(path: &[u32; 256], a: usize, y: usize) -> usize
     requires { (a ≤ 256) × (length path.now ≡ 256) }
     ensures { result ≡ length (passed y (drop a path.now)) }
 {
-    let mut i = a;
-    while i < 256 {
+    for i in a..256 {
         if layout::wide(path[i]) == y {
             return i + 1 - a;
         }
-        i += 1;
     }
     0
 }
@@ -79,10 +73,8 @@ fn to_front(path: &[u32; 256], a: usize, c: usize, order: &mut [u32; 256])
     ensures { take c order.new ≡ take c (drop a path.now) }
 {
     let mut front = [0u32; 256];
-    let mut j = 0;
-    while j < c {
+    for j in 0..c {
         front[j] = path[a + j];
-        j += 1;
     }
     *order = front;
 }
@@ -103,6 +95,7 @@ fn go_back(
     let mut a = 256;
     let mut y = x;
     let mut c = 0;
+    // Counts no index: it ends where a number comes again. A `for` would want an answer after its last round too.
     while c == 0 {
         a -= 1;
         path[a] = y as u32;

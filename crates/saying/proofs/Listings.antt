@@ -1,16 +1,16 @@
 -- What a call on a table that is formed answers, and the words of a listing that fits. Assumes nothing.
-use mathlib.Core.Path.{◌≡◌, sym, ap, ap₂, ◌∙◌}
+use Rattle.std.specs.Prelude.{Ok}
+use mathlib.Core.Path.{◌≡◌, ap, ap₂, ◌∙◌}
 use mathlib.Core.List.{List}
 use Prim.Native.Nat.{ℕ, ◌+◌, ◌-◌, ◌≤◌}
 use native.Mathlib.Nat.{sub-zero}
 use native.Mathlib.Omega.{arith}
 use lib.ListN.{length, take, drop, length-append}
 use lib.Seq.{take-append_seam}
-use borrow.Author.Tests.{le-leb, eq-eqb, ne_eqb}
+use borrow.Author.Tests.{le-leb}
 use Rattle.lists.specs.Lists.{over}
 use Rattle.lists.proofs.Cases.{and_both}
-use Rattle.layout.specs.declared.Answer.{Answer}
-use Rattle.layout.specs.declared.Answer.TheVariants.{Done}
+use Rattle.layout.specs.Answers.{Answer}
 use Rattle.layout.specs.Content.{Table}
 use Rattle.layout.specs.Layout.{limit, read}
 use Rattle.layout.specs.WellFormed.{well_formed}
@@ -18,8 +18,6 @@ use Rattle.layout.specs.Inner.{Formed}
 use Rattle.layout.specs.Answers.{number, detail, Result, result_of, on_formed, listed}
 use Rattle.layout.proofs.Shape.{shaped-by}
 use Rattle.layout.proofs.Answers.{formed-result}
-use Rattle.wording.specs.Pages.{Page, page, write}
-use Rattle.saying.specs.Saying.{word_on}
 
 -- the answer is of the content
 pub on-content : (ws lent : List ℕ) (g : Table → Result) → Formed limit ws → on_formed ws lent g ≡ g (read limit ws)
@@ -33,7 +31,7 @@ relent a b w v z e = ap (λ (r : Result). record { number = r.number; detail = r
 -- ---- a listing that fits: a is the answer, w the words that are left
 
 module _ (xs lent : List ℕ) (h : length xs ≤ length lent) (a : Answer) (w : List ℕ) (e : result_of a w ≡ listed xs lent) where
-  fitted : result_of a w ≡ result_of (Done (length xs)) (over xs lent)
+  fitted : result_of a w ≡ result_of (Ok (length xs)) (over xs lent)
   unfolding listed
   fitted = rw (le-leb (length xs) (length lent) h) at e
 
@@ -54,14 +52,3 @@ module _ (xs lent : List ℕ) (h : length xs ≤ length lent) (a : Answer) (w : 
         let k : detail a ≡ length xs = ap (λ (r : Result). r.detail) fitted in
         let l : length w ≡ length xs + length (drop (length xs) lent) = ap (λ (r : Result). length r.lent) fitted ∙ length-append xs (drop (length xs) lent) in
         omega arith
-
--- ---- the sheet of a call that answers with a number alone: n is the number of the answer a
-
-module _ (a : Answer) (ws : List ℕ) (q : Result) (e : result_of a ws ≡ q) (f : ℕ → List ℕ) (n : ℕ) (m : n ≡ number a) where
-  pub word-refused : (bytes : List ℕ) (at : ℕ) → (n ≡ 0 → ⊥) → result_of a bytes ≡ word_on q f (page bytes at)
-  unfolding word_on
-  word-refused bytes at h = rw (← e, ne_eqb (number a) 0 (λ z. h (m ∙ z)))
-
-  pub word-written : (p : Page) (xs exit : List ℕ) (next : ℕ) → n ≡ 0 → xs ≡ f (detail a) → page exit next ≡ write xs p → result_of (Done next) exit ≡ word_on q f p
-  unfolding word_on
-  word-written p xs exit next h g w = rw (← e, eq-eqb (number a) 0 (sym m ∙ h), ← g, ← w)

@@ -16,14 +16,12 @@ fn frame_sum(values: &[u16; 256], text: &[u8], at: usize, k: usize) -> usize
     ensures { result ≡ frame_sum text.now at k }
 {
     let mut sum = 0;
-    let mut i = 0;
-    while i < k {
+    for i in 0..k {
         let b = byte_at(values, text, at + i * 2);
         if BYTE_VALUES <= b {
             return 1;
         }
         sum += b;
-        i += 1;
     }
     sum
 }
@@ -33,14 +31,7 @@ pub fn stands_at(text: &[u8], at: usize, bytes: &[u8]) -> bool
     requires { at + length bytes.now ≤ length text.now }
     ensures { result ≡ stands_at text.now at bytes.now }
 {
-    let mut i = 0;
-    while i < bytes.len() {
-        if text[at + i] != bytes[i] {
-            return false;
-        }
-        i += 1;
-    }
-    true
+    &text[at..at + bytes.len()] == bytes
 }
 
 // The place behind the line at the place, where that is a frame of k bytes, its last byte and its line feed included in the test; else

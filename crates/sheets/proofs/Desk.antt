@@ -1,4 +1,5 @@
 -- The cases of the release desk hold, by computation of the definitions that the promises cite. Assumes nothing.
+use Rattle.std.specs.Prelude.{Err}
 use mathlib.Core.Path.{◌≡◌, refl, ap, ◌∙◌}
 use mathlib.Core.Bool.{Bool, true, cond}
 use mathlib.Core.List.{List, [], ◌∷◌, map}
@@ -7,7 +8,7 @@ use lib.ListN.{length}
 use Rattle.lists.specs.Tests.{◌and◌}
 use Rattle.lists.specs.Lists.{all, any, filter, tab, zeros, over, ascending}
 use Rattle.lists.proofs.Cases.{and_left, and_right}
-use Rattle.layout.specs.declared.Answer.TheVariants.{NotWellFormed}
+use Rattle.layout.specs.declared.Refusal.TheVariants.{NotWellFormed}
 use Rattle.layout.specs.Content.{Table, live_vertices, position, position_from, members_live, numbered, valid}
 use Rattle.layout.specs.Layout.{limit, read, words}
 use Rattle.layout.specs.Steps.{steps_of, is_step, makes_step, has_step}
@@ -23,7 +24,7 @@ use Rattle.sheets.specs.Desk.{DeskCase, HoldAtDesk, at_desk}
 
 -- what is asked of a case's content
 abbrev asked : DeskCase → Result
-asked c = cond (states_fit (length (live_vertices c.table)) c.states) (c.call c.states c.table) (result_of NotWellFormed c.given)
+asked c = cond (states_fit (length (live_vertices c.table)) c.states) (c.call c.states c.table) (result_of (Err NotWellFormed) c.given)
 
 abbrev answered : DeskCase → Result
 answered c = c.answer
@@ -40,7 +41,7 @@ fits-words t h ss =
     ∙ ap (λ (u : Table). states_fit (length (live_vertices u)) ss) (read-words limit t h)
 
 called : (t : Table) → holdable limit t ≡ true → (ss lent : List ℕ) (f : Table → Result)
-    → on_desk (desk_of (words limit t) ss) lent f ≡ cond (states_fit (length (live_vertices t)) ss) (f t) (result_of NotWellFormed lent)
+    → on_desk (desk_of (words limit t) ss) lent f ≡ cond (states_fit (length (live_vertices t)) ss) (f t) (result_of (Err NotWellFormed) lent)
 unfolding on_desk
 called t h ss lent f = rw (fits-words t h ss, read-words limit t h)
 

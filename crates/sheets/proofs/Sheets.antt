@@ -1,4 +1,5 @@
 -- Sheets P1 to P12, as one statement over one table of cases, by computation of the definitions that the promises cite. Assumes nothing.
+use Rattle.std.specs.Prelude.{Ok}
 use mathlib.Core.Path.{◌≡◌, refl, ap, ◌∙◌}
 use mathlib.Core.Bool.{Bool, true}
 use mathlib.Core.List.{List, [], ◌∷◌, map}
@@ -12,7 +13,6 @@ use Rattle.layout.specs.Content.{Table, position, position_from, members_live, n
 use Rattle.layout.specs.Layout.{limit, size, words}
 use Rattle.layout.specs.Steps.{steps_of, is_step, makes_step, has_step}
 use Rattle.layout.specs.WellFormed.{count_fits, holdable}
-use Rattle.layout.specs.declared.Answer.TheVariants.{Done}
 use Rattle.layout.specs.Answers.{Result, result_of, on_formed, on_live, listed}
 use Rattle.layout.proofs.Back.{read-words, words-formed}
 use Rattle.graph.specs.Bfs.{push, spread, run, bfs}
@@ -66,7 +66,7 @@ unfolding on_formed
 called t h lent f = rw (words-formed limit t h, read-words limit t h)
 
 -- an accepted text is read
-read_done : (bytes slice : List ℕ) → accepted bytes ≡ true → length slice ≡ size limit → read_result bytes slice ≡ result_of (Done 0) (words limit (content_of bytes))
+read_done : (bytes slice : List ℕ) → accepted bytes ≡ true → length slice ≡ size limit → read_result bytes slice ≡ result_of (Ok 0) (words limit (content_of bytes))
 unfolding read_result
 read_done bytes slice a n = rw (eq-eqb (length slice) (size limit) n, a)
 

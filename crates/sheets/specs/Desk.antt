@@ -1,8 +1,8 @@
 -- Cases of the release desk: a day on a chain, orders, and states that don't fit. Assumes nothing.
-use Rattle.std.specs.Prelude.{◌≡◌, List, [], ◌∷◌, ℕ, replicate}
+use Rattle.std.specs.Prelude.{◌≡◌, List, [], ◌∷◌, ℕ, replicate, Ok, Err}
 use Rattle.lists.specs.Lists.{pad}
-use Rattle.layout.specs.declared.Answer.{Answer}
-use Rattle.layout.specs.declared.Answer.TheVariants.{Done, NotWellFormed, BadOrder}
+use Rattle.layout.specs.Answers.{Answer}
+use Rattle.layout.specs.declared.Refusal.TheVariants.{NotWellFormed, BadOrder}
 use Rattle.layout.specs.Content.{Table}
 use Rattle.layout.specs.Layout.{limit, vertex_limit, words}
 use Rattle.layout.specs.Answers.{Result, result_of, vertex_missing}
@@ -43,7 +43,7 @@ abbrev pub not-reviewed : DeskCase
 not-reviewed = signs Two (1 ∷ 0 ∷ 0 ∷ []) (release_result 1) (not_reviewed 1) (1 ∷ 0 ∷ 0 ∷ [])
 
 abbrev pub a-review : DeskCase
-a-review = signs Two (1 ∷ 0 ∷ 0 ∷ []) (review_result 1) (Done 0) (1 ∷ 1 ∷ 0 ∷ [])
+a-review = signs Two (1 ∷ 0 ∷ 0 ∷ []) (review_result 1) (Ok 0) (1 ∷ 1 ∷ 0 ∷ [])
 
 abbrev pub too-early : DeskCase
 too-early = signs Two (1 ∷ 1 ∷ 1 ∷ []) (release_result 1) (upstream_held 0) (1 ∷ 1 ∷ 1 ∷ [])
@@ -53,16 +53,16 @@ missing = signs Two (1 ∷ 1 ∷ 1 ∷ []) (release_result 9) (vertex_missing 9)
 
 -- down the order; a release again changes nothing, and a review takes none back
 abbrev pub first-released : DeskCase
-first-released = signs Two (1 ∷ 1 ∷ 1 ∷ []) (release_result 0) (Done 0) (2 ∷ 1 ∷ 1 ∷ [])
+first-released = signs Two (1 ∷ 1 ∷ 1 ∷ []) (release_result 0) (Ok 0) (2 ∷ 1 ∷ 1 ∷ [])
 
 abbrev pub next-released : DeskCase
-next-released = signs Two (2 ∷ 1 ∷ 1 ∷ []) (release_result 1) (Done 0) (2 ∷ 2 ∷ 1 ∷ [])
+next-released = signs Two (2 ∷ 1 ∷ 1 ∷ []) (release_result 1) (Ok 0) (2 ∷ 2 ∷ 1 ∷ [])
 
 abbrev pub again-released : DeskCase
-again-released = signs Two (2 ∷ 2 ∷ 1 ∷ []) (release_result 0) (Done 0) (2 ∷ 2 ∷ 1 ∷ [])
+again-released = signs Two (2 ∷ 2 ∷ 1 ∷ []) (release_result 0) (Ok 0) (2 ∷ 2 ∷ 1 ∷ [])
 
 abbrev pub stays-released : DeskCase
-stays-released = signs Two (2 ∷ 2 ∷ 1 ∷ []) (review_result 1) (Done 0) (2 ∷ 2 ∷ 1 ∷ [])
+stays-released = signs Two (2 ∷ 2 ∷ 1 ∷ []) (review_result 1) (Ok 0) (2 ∷ 2 ∷ 1 ∷ [])
 
 -- what is reviewed, and what a release would release now
 abbrev pub shown-reviewed : DeskCase
@@ -86,31 +86,31 @@ holds-itself = signs Loop (1 ∷ []) (release_result 0) (upstream_held 0) (1 ∷
 -- ---- orders
 
 abbrev pub accepted : DeskCase
-accepted = hands Two (0 ∷ 1 ∷ 2 ∷ []) (Done 0)
+accepted = hands Two (0 ∷ 1 ∷ 2 ∷ []) (Ok 0)
 
 -- 0 has a step to the earlier 1; 0 again; 9 is not live; one short; none at all; a step to itself
 abbrev pub step_back : DeskCase
-step_back = hands Two (1 ∷ 0 ∷ 2 ∷ []) (BadOrder 1)
+step_back = hands Two (1 ∷ 0 ∷ 2 ∷ []) (Err (BadOrder 1))
 
 abbrev pub repeated : DeskCase
-repeated = hands Two (0 ∷ 1 ∷ 0 ∷ 2 ∷ []) (BadOrder 2)
+repeated = hands Two (0 ∷ 1 ∷ 0 ∷ 2 ∷ []) (Err (BadOrder 2))
 
 abbrev pub not_live : DeskCase
-not_live = hands Two (0 ∷ 1 ∷ 2 ∷ 9 ∷ []) (BadOrder 3)
+not_live = hands Two (0 ∷ 1 ∷ 2 ∷ 9 ∷ []) (Err (BadOrder 3))
 
 abbrev pub one-short : DeskCase
-one-short = hands Two (0 ∷ 1 ∷ []) (BadOrder 2)
+one-short = hands Two (0 ∷ 1 ∷ []) (Err (BadOrder 2))
 
 abbrev pub nothing-listed : DeskCase
-nothing-listed = hands Two [] (BadOrder 0)
+nothing-listed = hands Two [] (Err (BadOrder 0))
 
 abbrev pub step-to-itself : DeskCase
-step-to-itself = hands Loop (0 ∷ []) (BadOrder 0)
+step-to-itself = hands Loop (0 ∷ []) (Err (BadOrder 0))
 
 -- ---- states that don't fit: a 3, a state in an unused record, a word too few
 
 abbrev pub unfit : List ℕ → DeskCase
-unfit ss = record { table = Two; states = ss; given = ss; call = release_result 0; answer = result_of NotWellFormed ss }
+unfit ss = record { table = Two; states = ss; given = ss; call = release_result 0; answer = result_of (Err NotWellFormed) ss }
 
 abbrev pub no-state : DeskCase
 no-state = unfit (states (1 ∷ 3 ∷ 0 ∷ []))

@@ -1,6 +1,6 @@
 -- Cases beside the rules' sheets. Assumes nothing.
-use Rattle.std.specs.Prelude.{List, [], ◌∷◌, ℕ}
-use Rattle.layout.specs.declared.Answer.TheVariants.{Done, NoRoom, SameVertex, BadRecord, EqualNeighbours}
+use Rattle.std.specs.Prelude.{List, [], ◌∷◌, ℕ, Ok, Err}
+use Rattle.layout.specs.declared.Refusal.TheVariants.{NoRoom, SameVertex, BadRecord, EqualNeighbours}
 use Rattle.layout.specs.Content.{Table, hyperedge_of}
 use Rattle.layout.specs.Layout.{limit, words}
 use Rattle.layout.specs.Answers.{Result, result_of, vertex_missing, hyperedge_missing}
@@ -73,18 +73,18 @@ Tied = table (vertex 0 ∷ vertex 1 ∷ []) (hyperedge_of 0 2 (0 ∷ 1 ∷ []) �
 
 -- a number or a yes or no, and nothing is lent
 abbrev pub answers : ℕ → Result
-answers d = result_of (Done d) []
+answers d = result_of (Ok d) []
 
 -- a removed vertex is filtered out at every place
 abbrev pub removed-0 : Case
-removed-0 = record { given = held Repeated; query = remove_vertex_result 0 (words limit Repeated); answer = result_of (Done 0) (words limit Filtered) }
+removed-0 = record { given = held Repeated; query = remove_vertex_result 0 (words limit Repeated); answer = result_of (Ok 0) (words limit Filtered) }
 
 -- a merged vertex is read as the other at every place; two of it in a row become two of the other
 abbrev pub merged-3 : Case
-merged-3 = record { given = held Doubled; query = merge_result 0 3 (words limit Doubled); answer = result_of (Done 0) (words limit Single) }
+merged-3 = record { given = held Doubled; query = merge_result 0 3 (words limit Doubled); answer = result_of (Ok 0) (words limit Single) }
 
 abbrev pub merged-row : Case
-merged-row = record { given = held Lone; query = merge_result 0 1 (words limit Lone); answer = result_of (Done 0) (words limit Loop) }
+merged-row = record { given = held Lone; query = merge_result 0 1 (words limit Lone); answer = result_of (Ok 0) (words limit Loop) }
 
 -- side by side, in either order: the lowest such hyperedge; a vertex and itself; one that is not live comes before that
 abbrev pub beside-K : Case
@@ -94,14 +94,14 @@ abbrev pub beside-G : Case
 beside-G = record { given = held G; query = merge_result 2 3 (words limit G); answer = result_of (side_by_side_in 2) (words limit G) }
 
 abbrev pub merged-itself : Case
-merged-itself = record { given = held G; query = merge_result 1 1 (words limit G); answer = result_of (SameVertex (record { 0 = 1 })) (words limit G) }
+merged-itself = record { given = held G; query = merge_result 1 1 (words limit G); answer = result_of (Err (SameVertex (record { 0 = 1 }))) (words limit G) }
 
 abbrev pub merged-dead : Case
 merged-dead = record { given = held G; query = merge_result 9 9 (words limit G); answer = result_of (vertex_missing 9) (words limit G) }
 
 -- a list with two equal neighbours: the first such vertex, also where it is the last; one that is not live comes before that
 abbrev pub twice : ℕ → List ℕ → Result
-twice v ws = result_of (EqualNeighbours (record { 0 = v })) ws
+twice v ws = result_of (Err (EqualNeighbours (record { 0 = v }))) ws
 
 abbrev pub bounced : Case
 bounced = record { given = held G; query = add_hyperedge_result (0 ∷ 1 ∷ 1 ∷ 2 ∷ 2 ∷ []) 4 (words limit G); answer = twice 1 (words limit G) }
@@ -121,7 +121,7 @@ bounced-update = record { given = held G; query = update_result 9 (3 ∷ 3 ∷ [
 
 -- a vertex may stand in a list again, further on: here the list is that of hyperedge 1
 abbrev pub again-further : Case
-again-further = record { given = held K; query = add_hyperedge_result (0 ∷ 1 ∷ 0 ∷ []) 0 (words limit K); answer = result_of (Done 1) (words limit K) }
+again-further = record { given = held K; query = add_hyperedge_result (0 ∷ 1 ∷ 0 ∷ []) 0 (words limit K); answer = result_of (Ok 1) (words limit K) }
 
 -- records of a tray
 abbrev pub vertex_record : ℕ → Withdrawal
@@ -135,37 +135,37 @@ abbrev pub tray-emptied : Case
 tray-emptied = record {
   given = held K;
   query = tray_result (vertex_record 0 ∷ vertex_record 1 ∷ hyperedge_record 0 ∷ []) (words limit K);
-  answer = result_of (Done 0) (words limit Remnant);
+  answer = result_of (Ok 0) (words limit Remnant);
 }
 
 abbrev pub tray-repeated : Case
 tray-repeated = record {
   given = held K;
   query = tray_result (hyperedge_record 1 ∷ vertex_record 1 ∷ hyperedge_record 1 ∷ vertex_record 0 ∷ vertex_record 1 ∷ []) (words limit K);
-  answer = result_of (Done 0) (words limit Remnant);
+  answer = result_of (Ok 0) (words limit Remnant);
 }
 
 -- no records: done, and nothing changes
 abbrev pub tray-empty : Case
-tray-empty = record { given = held G; query = tray_result [] (words limit G); answer = result_of (Done 0) (words limit G) }
+tray-empty = record { given = held G; query = tray_result [] (words limit G); answer = result_of (Ok 0) (words limit G) }
 
 -- the first record of another kind or not live, from 0: kind 2; vertex 9; hyperedge 3, though vertex 3 is live
 abbrev pub tray-kind : Case
 tray-kind = record {
   given = held G;
   query = tray_result (vertex_record 0 ∷ record { kind = 2; number = 0 } ∷ []) (words limit G);
-  answer = result_of (BadRecord 1) (words limit G);
+  answer = result_of (Err (BadRecord 1)) (words limit G);
 }
 
 abbrev pub tray-dead : Case
 tray-dead = record {
   given = held G;
   query = tray_result (hyperedge_record 2 ∷ vertex_record 9 ∷ vertex_record 0 ∷ vertex_record 9 ∷ []) (words limit G);
-  answer = result_of (BadRecord 1) (words limit G);
+  answer = result_of (Err (BadRecord 1)) (words limit G);
 }
 
 abbrev pub tray-other : Case
-tray-other = record { given = held G; query = tray_result (hyperedge_record 3 ∷ []) (words limit G); answer = result_of (BadRecord 0) (words limit G) }
+tray-other = record { given = held G; query = tray_result (hyperedge_record 3 ∷ []) (words limit G); answer = result_of (Err (BadRecord 0)) (words limit G) }
 
 -- adjacent vertices and neighbourhoods
 abbrev pub after-0 : Case
@@ -267,7 +267,7 @@ abbrev pub members-0 : Case
 members-0 = record { given = held Doubled; query = members_result 0 (lent 3); answer = gives (3 ∷ 1 ∷ 3 ∷ []) }
 
 abbrev pub members-no-room : Case
-members-no-room = record { given = held Doubled; query = members_result 0 (lent 2); answer = result_of (NoRoom 3) (lent 2) }
+members-no-room = record { given = held Doubled; query = members_result 0 (lent 2); answer = result_of (Err (NoRoom 3)) (lent 2) }
 
 abbrev pub all-vertices : Case
 all-vertices = record { given = held Gaps; query = vertices_result (lent 3); answer = gives (1 ∷ 3 ∷ 4 ∷ []) }
@@ -277,10 +277,10 @@ all-hyperedges = record { given = held Left; query = hyperedges_result (lent 2);
 
 -- what is lent beyond the answer is kept; without room nothing is written
 abbrev pub sort-kept : Case
-sort-kept = record { given = held G; query = sort_result (9 ∷ 9 ∷ 9 ∷ 9 ∷ 9 ∷ 9 ∷ []); answer = result_of (Done 5) (0 ∷ 1 ∷ 3 ∷ 2 ∷ 4 ∷ 9 ∷ []) }
+sort-kept = record { given = held G; query = sort_result (9 ∷ 9 ∷ 9 ∷ 9 ∷ 9 ∷ 9 ∷ []); answer = result_of (Ok 5) (0 ∷ 1 ∷ 3 ∷ 2 ∷ 4 ∷ 9 ∷ []) }
 
 abbrev pub sort-no-room : Case
-sort-no-room = record { given = held G; query = sort_result (9 ∷ 9 ∷ 9 ∷ 9 ∷ []); answer = result_of (NoRoom 5) (9 ∷ 9 ∷ 9 ∷ 9 ∷ []) }
+sort-no-room = record { given = held G; query = sort_result (9 ∷ 9 ∷ 9 ∷ 9 ∷ []); answer = result_of (Err (NoRoom 5)) (9 ∷ 9 ∷ 9 ∷ 9 ∷ []) }
 
 abbrev pub acyclic-G : Case
 acyclic-G = record { given = held G; query = acyclic_result; answer = answers 1 }
@@ -293,7 +293,7 @@ abbrev pub components : Case
 components = record { given = held G; query = connected_components_result (lent 7); answer = gives (4 ∷ 0 ∷ 1 ∷ 2 ∷ 3 ∷ 1 ∷ 4 ∷ []) }
 
 abbrev pub components-no-room : Case
-components-no-room = record { given = held G; query = connected_components_result (lent 6); answer = result_of (NoRoom 7) (lent 6) }
+components-no-room = record { given = held G; query = connected_components_result (lent 6); answer = result_of (Err (NoRoom 7)) (lent 6) }
 
 abbrev pub not-connected : Case
 not-connected = record { given = held G; query = connected_result; answer = answers 0 }

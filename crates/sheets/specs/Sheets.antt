@@ -1,6 +1,6 @@
 -- The sheets to check by: a table of cases, each a table, a query and the rules' answer. Assumes nothing.
-use Rattle.std.specs.Prelude.{◌≡◌, List, [], ◌∷◌, ℕ, length, replicate}
-use Rattle.layout.specs.declared.Answer.TheVariants.{Done, NoMembers, ClosedWalk}
+use Rattle.std.specs.Prelude.{◌≡◌, List, [], ◌∷◌, ℕ, length, replicate, Ok, Err}
+use Rattle.layout.specs.declared.Refusal.TheVariants.{NoMembers, ClosedWalk}
 use Rattle.layout.specs.Content.{Vertex, Hyperedge, vertex_of, hyperedge_of, Table}
 use Rattle.layout.specs.Layout.{limit, size, words}
 use Rattle.layout.specs.Answers.{Result, result_of, on_formed}
@@ -87,7 +87,7 @@ lent n = replicate n 0
 
 -- done, with a listing that fills the lent slice
 abbrev pub gives : List ℕ → Result
-gives xs = result_of (Done (length xs)) xs
+gives xs = result_of (Ok (length xs)) xs
 
 -- P1: G sorted is 0 1 3 2 4
 abbrev pub P1 : Case
@@ -114,14 +114,14 @@ P5 = record { given = held G; query = strong_components_result (lent 10); answer
 
 -- P6: G, remove 0 and 3: [1,2] and [2] left, as hyperedges 0 and 2
 abbrev pub P6-first : Case
-P6-first = record { given = held G; query = remove_vertex_result 0 (words limit G); answer = result_of (Done 0) (words limit WithoutZero) }
+P6-first = record { given = held G; query = remove_vertex_result 0 (words limit G); answer = result_of (Ok 0) (words limit WithoutZero) }
 
 abbrev pub P6-second : Case
-P6-second = record { given = held WithoutZero; query = remove_vertex_result 3 (words limit WithoutZero); answer = result_of (Done 0) (words limit Left) }
+P6-second = record { given = held WithoutZero; query = remove_vertex_result 3 (words limit WithoutZero); answer = result_of (Ok 0) (words limit Left) }
 
 -- P7: list [0,0], sort: 9; no add takes such a list, so its frame text is read
 abbrev pub P7 : Case
-P7 = record { given = text (frame_text Loop); query = sort_result (lent 1); answer = result_of ClosedWalk (lent 1) }
+P7 = record { given = text (frame_text Loop); query = sort_result (lent 1); answer = result_of (Err ClosedWalk) (lent 1) }
 
 -- P8: only [0,1,0,1], connecting 0 to 1: the hyperedge twice
 abbrev pub P8 : Case
@@ -144,7 +144,7 @@ P11-one = record { given = held One; query = cut_vertices_result (lent 0); answe
 
 -- P12: update, empty list, unknown hyperedge: 2
 abbrev pub P12 : Case
-P12 = record { given = held G; query = update_result 9 [] (words limit G); answer = result_of (NoMembers 9) (words limit G) }
+P12 = record { given = held G; query = update_result 9 [] (words limit G); answer = result_of (Err (NoMembers 9)) (words limit G) }
 
 -- P1 to P12
 abbrev pub sheets : List Case

@@ -8,8 +8,6 @@ ghost use Rattle.lookups.specs.Lookups.{places};
 ghost use Rattle.edits.specs.Results.{side_by_side, first_passing};
 ghost use Rattle.side_by_side.specs.Places.{step_of, joins};
 
-use layout::Found;
-
 // Whether the step x to y leads from v to w or from w to v. All four are compared, so that there is no branch.
 fn beside(x: u32, y: u32, v: u32, w: u32) -> bool
     ensures { result ≡ joins v w (step_of x y) }
@@ -22,12 +20,10 @@ fn places_beside(ms: &[u32], v: u32, w: u32) -> usize
     ensures { result ≡ places (joins v w) ms.now }
 {
     let mut n: usize = 0;
-    let mut i = 0;
-    while i + 1 < ms.len() {
+    for i in 0..ms.len().saturating_sub(1) {
         if beside(ms[i], ms[i + 1], v, w) {
             n += 1;
         }
-        i += 1;
     }
     n
 }
@@ -46,17 +42,15 @@ fn beside_in(t: &[u32], j: usize, v: u32, w: u32) -> bool
 }
 
 // The place of the first hyperedge in whose list v and w stand side by side.
-pub fn find_side_by_side(t: &[u32], v: u32, w: u32) -> Found
+pub fn find_side_by_side(t: &[u32], v: u32, w: u32) -> Option<usize>
     requires { Formed limit t.now }
     ensures { result ≡ first_passing (side_by_side v w) (read_hyperedges limit t.now) }
 {
     let m = layout::hyperedge_count(t);
-    let mut j = 0;
-    while j < m {
+    for j in 0..m {
         if beside_in(t, j, v, w) {
-            return Found::At(j);
+            return Some(j);
         }
-        j += 1;
     }
-    Found::Nothing
+    None
 }

@@ -32,10 +32,8 @@ pub fn sift_vertices(t: &mut [u32], old: &[u32], marks: &[bool; 256])
 {
     let n = layout::vertex_count(old);
     let mut k = 0;
-    let mut i = 0;
-    while i < n {
+    for i in 0..n {
         k = move_vertex(t, old, marks, i, k);
-        i += 1;
     }
     let a = layout::VERTICES_AT + k * layout::VERTEX_SIZE;
     clear_words(t, a, layout::HYPEREDGES_AT - a);

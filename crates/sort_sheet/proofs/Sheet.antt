@@ -1,4 +1,5 @@
 -- From what the reader and the sort promise to what a sheet shows. Assumes nothing.
+use Rattle.std.specs.Prelude.{Ok, Err}
 use mathlib.Core.Path.{◌≡◌, refl, sym, ap, ◌∙◌}
 use mathlib.Core.Bool.{Bool, true, false, not}
 use mathlib.Core.List.{List}
@@ -8,8 +9,8 @@ use lib.Dec.{eqb}
 use lib.ListN.{length}
 use borrow.Author.Tests.{eq-eqb, eqb-true, eqb-false, not-true, not-false}
 use Rattle.lists.proofs.Cases.{on}
-use Rattle.layout.specs.declared.Answer.{Answer}
-use Rattle.layout.specs.declared.Answer.TheVariants.{Done, BadText}
+use Rattle.layout.specs.Answers.{Answer}
+use Rattle.layout.specs.declared.Refusal.TheVariants.{BadText}
 use Rattle.layout.specs.declared.Reply.{Reply}
 use Rattle.layout.specs.Layout.{limit, size, words}
 use Rattle.layout.specs.Answers.{number, detail, Result, result_of, on_formed}
@@ -28,11 +29,11 @@ number-told a r e = ap (λ (n : ℕ). eqb n 0) e.0
 
 -- a and t are what a read of the text into a table of the right length answered and left
 module _ (text lent order : List ℕ) (len : length lent ≡ size limit) (a : Answer) (t : List ℕ) (e : result_of a t ≡ read_result text lent) where
-  good : accepted text ≡ true → result_of a t ≡ result_of (Done 0) (words limit (content_of text))
+  good : accepted text ≡ true → result_of a t ≡ result_of (Ok 0) (words limit (content_of text))
   unfolding read_result
   good q = e ∙ rw (eq-eqb (length lent) (size limit) len, q)
 
-  bad : accepted text ≡ false → result_of a t ≡ result_of (BadText (faulty_line text)) lent
+  bad : accepted text ≡ false → result_of a t ≡ result_of (Err (BadText (faulty_line text))) lent
   unfolding read_result
   bad q = e ∙ rw (eq-eqb (length lent) (size limit) len, q)
 
@@ -45,7 +46,7 @@ module _ (text lent order : List ℕ) (len : length lent ≡ size limit) (a : An
         on (accepted text)
         (λ q. absurd (no (ap (λ (r : Result). r.number) (good q))))
         (λ q.
-        let same : a ≡ BadText (faulty_line text) = (agree (result_of (BadText (faulty_line text)) lent) {a = a} {b = BadText (faulty_line text)} {x = t} {y = lent} (bad q) refl).0 in
+        let same : a ≡ Err (BadText (faulty_line text)) = (agree (result_of (Err (BadText (faulty_line text))) lent) {a = a} {b = Err (BadText (faulty_line text))} {x = t} {y = lent} (bad q) refl).0 in
         rw q (ap (λ (x : Answer). result_of x order) same))
 
     pub sorted : not d ≡ false → (r : Answer) (exit : List ℕ) → result_of r exit ≡ on_formed t order (sort_result order) → result_of r exit ≡ sheet_result text order

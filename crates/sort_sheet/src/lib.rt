@@ -6,14 +6,14 @@ ghost use Rattle.layout.specs.Layout.{limit, size};
 ghost use Rattle.layout.specs.Answers.{number, result_of};
 ghost use Rattle.sort_sheet.specs.Sheet.{sheet_result};
 
-use layout::Answer;
+use layout::{Answer, Reply};
 use std::io;
 use std::io::Write;
 
 fn is_done(a: Answer) -> bool
     ensures { result ≡ eqb (number a) 0 }
 {
-    layout::reply_of(a).number == 0
+    Reply::from(a).number == 0
 }
 
 // The same, by way of the lent table.
@@ -51,19 +51,17 @@ fn print_lines<W: Write>(
     order: &[u32; layout::VERTEX_LIMIT],
     n: usize,
 ) -> io::Result<()> {
-    let mut i = 0;
-    while i < n {
+    for i in 0..n {
         if i < layout::VERTEX_LIMIT {
             print_number(out, order[i])?;
         }
-        i += 1;
     }
     Ok(())
 }
 
 // One line such as `refused 9`; for a faulty text also the line, to `err`.
 fn print_refusal<W: Write, E: Write>(out: &mut W, err: &mut E, a: Answer) -> io::Result<()> {
-    let r = layout::reply_of(a);
+    let r = Reply::from(a);
     write!(out, "refused ")?;
     print_line(out, r.number as u64)?;
     if r.number == 12 {
@@ -77,7 +75,7 @@ pub fn print_sheet<W: Write, E: Write>(out: &mut W, err: &mut E, text: &[u8]) ->
     let mut order = [0u32; layout::VERTEX_LIMIT];
     let a = sort_text(text, &mut order);
     match a {
-        Answer::Done(n) => print_lines(out, &order, n),
+        Ok(n) => print_lines(out, &order, n),
         refusal => print_refusal(out, err, refusal),
     }
 }

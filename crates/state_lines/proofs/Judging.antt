@@ -6,13 +6,12 @@ use Prim.Native.Nat.{ℕ, suc, ◌+◌, ◌*◌, ◌-◌, ◌≤◌, ◌<◌}
 use native.Mathlib.Nat.{lt_irrefl}
 use native.Mathlib.Omega.{arith}
 use lib.ListN.{length, get_or, take, drop, replicate, length-replicate, length-drop, length-append}
-use lib.Seq.{take-suc, get_or-drop, get_or-take, length-take-le, take-append_seam}
+use lib.Seq.{take-suc, get_or-drop, take-append_seam}
 use borrow.Author.Tests.{lt-ltb, le-ltb, ltb-true}
 use Rattle.lists.specs.Tests.{◌and◌}
 use Rattle.lists.specs.Lists.{same_list}
 use Rattle.lists.proofs.Cases.{on, on_same, clash}
 use Rattle.frames.specs.Faulty.{is_word}
-use Rattle.edits.proofs.Identical.{same-not-long, same-on, same-no, same_end}
 use Rattle.wording.specs.Pages.{Page, page, write}
 use Rattle.wording.proofs.Writing.{write-within}
 use Rattle.desk.specs.States.{waiting, reviewed, released}
@@ -58,31 +57,6 @@ module _ (l : List ℕ) (i v : ℕ) (low : 9 ≤ i) (high : i ≤ 9 + (length l 
       let s : i - 9 ≡ length l - 10 = omega arith in
       let is : v ≡ value_from 0 (take (length l - 10) (drop 9 l)) = e ∙ ap (λ (k : ℕ). value_from 0 (take k (drop 9 l))) s in
       record { word = ap is_word is; same = λ _. is; small = small }
-
--- ---- the same bytes as the first n of b
-
-module _ (a b : List ℕ) (n : ℕ) (h : n ≤ length b) where
-  front_length : length (take n b) ≡ n
-  front_length = length-take-le n b h
-
-  pub front-longer : n < length a → false ≡ same_list a (take n b)
-  front-longer l = same-not-long a (take n b) (λ q. lt_irrefl n (omega (arith, front_length)))
-
-  pub front-shorter : length a < n → false ≡ same_list a (take n b)
-  front-shorter l = same-not-long a (take n b) (λ q. lt_irrefl n (omega (arith, front_length)))
-
-  module _ (u : length a ≤ n) (v : n ≤ length a) (i : ℕ) (inv : same_list (drop i a) (drop i (take n b)) ≡ same_list a (take n b)) where
-    same-long : length a ≡ length (take n b)
-    same-long = omega (arith, front_length)
-
-    pub front-on : i < length a → get_or a i 0 ≡ get_or b i 0 → same_list (drop (i + 1) a) (drop (i + 1) (take n b)) ≡ same_list a (take n b)
-    front-on l q = same-on a (take n b) i _ inv same-long l (q ∙ sym (get_or-take n b i 0 (omega arith)))
-
-    pub front-no : i < length a → (get_or a i 0 ≡ get_or b i 0 → ⊥) → false ≡ same_list a (take n b)
-    front-no l ne = same-no a (take n b) i _ inv same-long l (λ q. ne (q ∙ get_or-take n b i 0 (omega arith)))
-
-    pub front-end : length a ≤ i → true ≡ same_list a (take n b)
-    front-end l = same_end a (take n b) i _ inv same-long l
 
 -- ---- the line that is written for v in state x: w is the page, n the place behind it
 

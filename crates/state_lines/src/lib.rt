@@ -35,36 +35,13 @@ fn number_of(line: &[u8]) -> u64
     ensures { Numbered line.now result }
 {
     let mut v: u64 = 0;
-    let mut i = 9;
-    while i + 1 < line.len() {
+    for i in 9..line.len().saturating_sub(1) {
         if LAST < v {
             return v;
         }
         v = v * 10 + digit_value(line[i]);
-        i += 1;
     }
     v
-}
-
-// Whether a is the same as the first n bytes of b.
-fn same_front(a: &[u8], b: &[u8], n: usize) -> bool
-    requires { n ≤ length b.now }
-    ensures { result ≡ same_list a.now (take n b.now) }
-{
-    if n < a.len() {
-        return false;
-    }
-    if a.len() < n {
-        return false;
-    }
-    let mut i = 0;
-    while i < a.len() {
-        if a[i] != b[i] {
-            return false;
-        }
-        i += 1;
-    }
-    true
 }
 
 // Whether the line is the one that is written for vertex v in state x.
@@ -73,7 +50,7 @@ fn is_line(line: &[u8], x: u32, v: u64) -> bool
 {
     let mut written = [0u8; 32];
     let n = put_state(&mut written, 0, x, v);
-    same_front(line, &written, n)
+    line == &written[..n]
 }
 
 // The state that the line says, where v is its number; waiting where it says none.

@@ -10,7 +10,7 @@ ghost use Rattle.desk.specs.States.{released, in_state};
 ghost use Rattle.state_sheets.specs.Signed.{review_said, release_said, releases_said};
 
 use desk::RELEASED;
-use layout::{Answer, Found, VertexIndex};
+use layout::{Answer, Reply, VertexIndex};
 use wording::{put_form, word_at};
 
 // The line of a review, by the state before.
@@ -33,7 +33,7 @@ pub fn say_review(plain: bool, state: Answer, v: VertexIndex, out: &mut [u8], at
     if plain {
         return at;
     }
-    let reply = layout::reply_of(state);
+    let reply = Reply::from(state);
     put_review(reply.detail, v, out, at)
 }
 
@@ -45,8 +45,8 @@ fn is_released(t: &[u32], s: &[u32], v: VertexIndex) -> bool
 {
     let f = find::find_vertex(t, v);
     match f {
-        Found::Nothing => false,
-        Found::At(i) => word_at(s, i) == RELEASED,
+        None => false,
+        Some(i) => word_at(s, i) == RELEASED,
     }
 }
 
@@ -69,10 +69,8 @@ fn put_releases(t: &[u32], s: &[u32], list: &[u32], out: &mut [u8], at: usize) -
     ensures { page out.new result ≡ write (releases_said (read limit t.now) s.now list.now) (page out.old at) }
 {
     let mut next = at;
-    let mut i = 0;
-    while i < list.len() {
+    for i in 0..list.len() {
         next = put_release(t, s, VertexIndex(list[i]), out, next);
-        i += 1;
     }
     next
 }

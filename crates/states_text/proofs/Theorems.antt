@@ -1,4 +1,5 @@
 -- The states as a text: what is written is read back; what is read fits the table; a text releases only what it names. Assumes nothing.
+use Rattle.std.specs.Prelude.{Ok}
 use mathlib.Core.Path.{◌≡◌, sym, ap, ◌∙◌, subst}
 use mathlib.Core.Bool.{true}
 use mathlib.Core.List.{List}
@@ -14,7 +15,6 @@ use Rattle.lists.proofs.Cases.{on, and_both}
 use Rattle.lists.proofs.All.{all-at, all_of}
 use Rattle.lists.proofs.Ascend.{ascending-of}
 use Rattle.lists.proofs.Memb.{memb-at}
-use Rattle.layout.specs.declared.Answer.TheVariants.{Done}
 use Rattle.layout.specs.Content.{live_vertices}
 use Rattle.layout.specs.Layout.{limit, vertex_limit, vertex_count, vertex_word, read}
 use Rattle.layout.specs.WellFormed.{well_formed}
@@ -76,16 +76,16 @@ module _ (d : Desk) (w : all is_word d.table ≡ true) (f : desk_fits d ≡ true
       ∙ states-same _ d.states (live-rises d.table formed) (live-few d.table formed) (desk-fits-of f).fit
 
   -- the text written from a desk's states gives those states, whatever the lent ones were
-  pub read_back : (ss : List ℕ) → length ss ≡ vertex_limit → reading d.table (states_text (live_vertices (content d)) d.states) ss ≡ result_of (Done 0) d.states
+  pub read_back : (ss : List ℕ) → length ss ≡ vertex_limit → reading d.table (states_text (live_vertices (content d)) d.states) ss ≡ result_of (Ok 0) d.states
   unfolding on_formed read_states_result live
   read_back ss e =
-      rw (formed, eq-eqb (length ss) vertex_limit e, lines-good (live_vertices (content d)) d.states 0 1 lined) (ap (result_of (Done 0)) states-back)
+      rw (formed, eq-eqb (length ss) vertex_limit e, lines-good (live_vertices (content d)) d.states 0 1 lined) (ap (result_of (Ok 0)) states-back)
 
 -- ---- what is read
 
 module _ (ws text ss : List ℕ) (e : (reading ws text ss).number ≡ 0) where
   -- the call was done
-  read_done : (well_formed limit ws ≡ true) × (reading ws text ss ≡ result_of (Done 0) (states_read text (read limit ws)))
+  read_done : (well_formed limit ws ≡ true) × (reading ws text ss ≡ result_of (Ok 0) (states_read text (read limit ws)))
   unfolding on_formed read_states_result
   read_done =
       on (well_formed limit ws)

@@ -1,8 +1,8 @@
 -- A text of states, read: which line is faulty, and which states it says. Assumes nothing.
-use Rattle.std.specs.Prelude.{Bool, cond, not, List, [], ◌∷◌, ℕ, suc, ◌+◌, ◌*◌, ◌-◌, eqb, leb, length, take, drop}
+use Rattle.std.specs.Prelude.{Bool, cond, not, List, [], ◌∷◌, ℕ, suc, ◌+◌, ◌*◌, ◌-◌, eqb, leb, length, take, drop, Ok, Err}
 use Rattle.lists.specs.Tests.{◌and◌}
 use Rattle.lists.specs.Lists.{any, same_list}
-use Rattle.layout.specs.declared.Answer.TheVariants.{Done, BadText, NotWellFormed}
+use Rattle.layout.specs.declared.Refusal.TheVariants.{BadText, NotWellFormed}
 use Rattle.layout.specs.Content.{Table, live_vertices}
 use Rattle.layout.specs.Layout.{vertex_limit}
 use Rattle.layout.specs.Answers.{Result, result_of}
@@ -83,5 +83,5 @@ states_read text t = states_by (state_said (lines text)) (live_vertices t)
 unfoldable pub read_states_result : List ℕ → List ℕ → Table → Result
 read_states_result text ss t =
     cond (eqb (length ss) vertex_limit)
-    (cond (eqb (faulty_state text) 0) (result_of (Done 0) (states_read text t)) (result_of (BadText (faulty_state text)) ss))
-    (result_of NotWellFormed ss)
+    (cond (eqb (faulty_state text) 0) (result_of (Ok 0) (states_read text t)) (result_of (Err (BadText (faulty_state text))) ss))
+    (result_of (Err NotWellFormed) ss)

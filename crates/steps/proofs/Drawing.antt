@@ -1,4 +1,5 @@
 -- The matrix while the lists are gone through: one step more, one list more, all lists. Assumes nothing.
+use Rattle.std.specs.Prelude.{Some}
 use mathlib.Core.Path.{◌≡◌, refl, sym, ap, ap₂, ◌∙◌, subst}
 use mathlib.Core.Bool.{Bool, true, false, not, ◌||◌, or_assoc}
 use mathlib.Core.List.{List}
@@ -15,7 +16,6 @@ use Rattle.lists.specs.Lists.{any, Ascending}
 use Rattle.lists.proofs.Cases.{on_same, or-false, and-false-right}
 use Rattle.lists.proofs.Tab.{length-tab, getD-tab}
 use Rattle.lists.proofs.Ascend.{ascending-apart}
-use Rattle.layout.specs.declared.Found.TheVariants.{At}
 use Rattle.layout.specs.Content.{Table, live_vertices, position}
 use Rattle.layout.specs.Layout.{limit, vertex_limit, vertex_count, hyperedge_count, hyperedge_at, members_at, read_hyperedges, read}
 use Rattle.layout.specs.Inner.{Formed}
@@ -52,7 +52,7 @@ both-more true true false true false r = refl
 both-more true true false false s r = refl
 
 -- the records of two numbers are one where the numbers are
-pub same-record : (live : List ℕ) → Ascending live → (x a i : ℕ) → position x live ≡ At a → i < length live → eqb x (get_or live i 0) ≡ eqb i a
+pub same-record : (live : List ℕ) → Ascending live → (x a i : ℕ) → position x live ≡ Some a → i < length live → eqb x (get_or live i 0) ≡ eqb i a
 same-record live asc x a i e h =
     let p = position-found x live a e in
     on_same i a
@@ -60,7 +60,7 @@ same-record live asc x a i e h =
     (λ q. ne_eqb x (get_or live i 0) (λ w. ascending-apart live asc i a h p.0 q (sym w ∙ sym p.1)) ∙ sym (ne_eqb i a q))
 
 module _ (ws : List ℕ) (f : Formed limit ws) (forth back : Bool) (R S : ℕ → ℕ → Bool) (x y a b : ℕ)
-    (ea : position x (live_vertices (read limit ws)) ≡ At a) (eb : position y (live_vertices (read limit ws)) ≡ At b)
+    (ea : position x (live_vertices (read limit ws)) ≡ Some a) (eb : position y (live_vertices (read limit ws)) ≡ Some b)
     (grow : (u v : ℕ) → S u v ≡ (R u v || (eqb x u and eqb y v))) where
   holds-step : {m : List ℕ} → Holds (between (read limit ws) (along forth back R)) (vertex_count ws) m
       → Holds (between (read limit ws) (along forth back S)) (vertex_count ws) (putting back (cell b a) (putting forth (cell a b) m))
@@ -92,7 +92,7 @@ so_far t j l x y = first_steps t j x y || any (is_step x y) (steps_of l)
 -- the hyperedges before j are gone through, and of its list ms the members up to place i, whose record is a
 pub record Drawing (ws : List ℕ) (j : ℕ) (forth back : Bool) (ms : List ℕ) (i a : ℕ) (m : List ℕ) : Type 0 where
   pub within : i < length ms
-  pub last : position (get_or ms i 0) (live_vertices (read limit ws)) ≡ At a
+  pub last : position (get_or ms i 0) (live_vertices (read limit ws)) ≡ Some a
   pub holds : Holds (between (read limit ws) (along forth back (so_far (read limit ws) j (take (suc i) ms)))) (vertex_count ws) m
 
 along-ext : (forth back : Bool) (R S : ℕ → ℕ → Bool) → ((u v : ℕ) → R u v ≡ S u v) → (u v : ℕ) → along forth back R u v ≡ along forth back S u v
@@ -127,12 +127,12 @@ module _ (ws : List ℕ) (j : ℕ) (ms : List ℕ) where
       ∙ ap (λ (z : Bool). any (makes_step u v) (take j (read_hyperedges limit ws)) || z) (ap (makes_step u v) (getD-tab (hyperedge_at limit ws) (hyperedge_count ws) j (hyperedge_at limit ws j) h)))
 
 module _ {ws : List ℕ} {j : ℕ} {forth back : Bool} {ms : List ℕ} where
-  pub drawing-first : {a : ℕ} {m : List ℕ} → 0 < length ms → position (get_or ms 0 0) (live_vertices (read limit ws)) ≡ At a → Drawn forth back ws j m
+  pub drawing-first : {a : ℕ} {m : List ℕ} → 0 < length ms → position (get_or ms 0 0) (live_vertices (read limit ws)) ≡ Some a → Drawn forth back ws j m
       → Drawing ws j forth back ms 0 a m
   drawing-first h e w = record { within = h; last = e; holds = holds_as ws forth back _ _ (so_far-first ws j ms) w }
 
   pub drawing-more : {i a b : ℕ} {m next : List ℕ} → Formed limit ws → Drawing ws j forth back ms i a m → i + 1 < length ms
-      → position (get_or ms (i + 1) 0) (live_vertices (read limit ws)) ≡ At b → next ≡ putting back (cell b a) (putting forth (cell a b) m)
+      → position (get_or ms (i + 1) 0) (live_vertices (read limit ws)) ≡ Some b → next ≡ putting back (cell b a) (putting forth (cell a b) m)
       → Drawing ws j forth back ms (i + 1) b next
   drawing-more {i} {a} {b} {m} f d h e q = record {
     within = h;

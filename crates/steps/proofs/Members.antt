@@ -1,8 +1,9 @@
 -- The members of a well-formed table: each list has one, and each is live, so that a search finds its record. Assumes nothing.
+use Rattle.std.specs.Prelude.{Option, Some, None, unwrap_or}
 use mathlib.Core.Path.{◌≡◌, sym, ap, ◌∙◌}
 use mathlib.Core.Bool.{true}
 use mathlib.Core.List.{List}
-use Prim.Native.Nat.{ℕ, ◌+◌, ◌≤◌, ◌<◌}
+use Prim.Native.Nat.{ℕ, ◌+◌, ◌-◌, ◌≤◌, ◌<◌}
 use native.Mathlib.Omega.{arith}
 use lib.ListN.{length, get_or, drop, length-drop}
 use lib.Seq.{length-take-le}
@@ -10,8 +11,6 @@ use Rattle.lists.proofs.Cases.{and_right, clash}
 use Rattle.lists.proofs.Tab.{length-tab, getD-tab}
 use Rattle.lists.proofs.All.{all-at}
 use Rattle.lists.proofs.Stride.{stride}
-use Rattle.layout.specs.declared.Found.{Found}
-use Rattle.layout.specs.declared.Found.TheVariants.{At, Nothing}
 use Rattle.layout.specs.Content.{live_vertices, is_live, members_live, valid, position}
 use Rattle.layout.specs.Layout.{vertex_limit, hyperedge_limit, record_size, hyperedges_at, hyperedge_word, hyperedge_count, count_at, hyperedge_at, members_at, read_hyperedges, read}
 use Rattle.layout.specs.Inner.{Formed}
@@ -36,11 +35,21 @@ module _ (L : ℕ) (ws : List ℕ) (f : Formed L ws) (j : ℕ) (h : j < hyperedg
 
 -- ---- for `search`: p is what `find_vertex` returned
 
-pub place_here : (live : List ℕ) (x : ℕ) (p : Found) → p ≡ position x live → (i : ℕ) → p ≡ At i → position x live ≡ At i
+pub place_here : (live : List ℕ) (x : ℕ) (p : Option ℕ) → p ≡ position x live → (i : ℕ) → p ≡ Some i → position x live ≡ Some i
 place_here live x p e i h = sym e ∙ h
 
-pub place-nowhere : (live : List ℕ) (x : ℕ) (p : Found) → p ≡ position x live → is_live live x ≡ true → {i : ℕ} → p ≡ Nothing → position x live ≡ At i
-place-nowhere live x p e l h = clash l (missing-dead x live (sym e ∙ h))
+-- r is what `unwrap_or` made of p
+pub place-of : (live : List ℕ) (x : ℕ) (p : Option ℕ) → p ≡ position x live → is_live live x ≡ true → (r : ℕ) → r ≡ unwrap_or p 0 → position x live ≡ Some r
+place-of live x (Some i) e l r q = sym e ∙ ap Some (sym q)
+place-of live x None e l r q = clash l (missing-dead x live (sym e))
 
-pub place-below : (L : ℕ) (ws : List ℕ) → Formed L ws → (x a : ℕ) → position x (live_vertices (read L ws)) ≡ At a → a < vertex_limit
+pub place-below : (L : ℕ) (ws : List ℕ) → Formed L ws → (x a : ℕ) → position x (live_vertices (read L ws)) ≡ Some a → a < vertex_limit
 place-below L ws f x a e = omega (arith, (vertex-found L ws x a e).0, f.shape.vertices-le)
+
+-- ---- a place and the next one in a list of n: a loop goes up to n - 1
+
+pub next-below : {i n : ℕ} → i < n - 1 → i + 1 < n
+next-below h = omega arith
+
+pub next-end : {i n : ℕ} → n - 1 ≤ i → n ≤ i + 1
+next-end h = omega arith

@@ -1,4 +1,5 @@
 -- The records of a listing, and their numbers as they are written. Assumes nothing.
+use Rattle.std.specs.Prelude.{Ok, Err}
 use mathlib.Core.Path.{◌≡◌, refl, sym, ap, ◌∙◌, subst}
 use mathlib.Core.List.{List, map}
 use Prim.Native.Nat.{ℕ, ◌+◌, ◌≤◌, ◌<◌}
@@ -11,7 +12,7 @@ use Rattle.lists.specs.Lists.{over}
 use Rattle.lists.proofs.Maps.{map-length, map_snoc}
 use Rattle.lists.proofs.Chosen.{over_none, over-more}
 use Rattle.lists.proofs.Memb.{memb-getD, below-memb}
-use Rattle.layout.specs.declared.Answer.TheVariants.{Done, NoRoom}
+use Rattle.layout.specs.declared.Refusal.TheVariants.{NoRoom}
 use Rattle.layout.specs.Layout.{limit, vertex_count, vertex_word, read}
 use Rattle.layout.specs.Answers.{result_of, listed}
 use Rattle.layout.proofs.Answers.{listed-over, listed-fits}
@@ -67,8 +68,8 @@ module _ (f : ℕ → ℕ) {n c : ℕ} {order : List ℕ} (o : Ordered n c order
   counted : c ≡ length (map f (take c order))
   counted = o.count ∙ sym (map-length f (take c order))
 
-  pub records-over : (out : List ℕ) → length out < c → result_of (NoRoom c) out ≡ listed (map f (take c order)) out
+  pub records-over : (out : List ℕ) → length out < c → result_of (Err (NoRoom c)) out ≡ listed (map f (take c order)) out
   records-over out h = listed-over _ out c counted h
 
-  pub records-fit : (out exit : List ℕ) → c ≤ length out → exit ≡ over (map f (take c order)) out → result_of (Done c) exit ≡ listed (map f (take c order)) out
+  pub records-fit : (out exit : List ℕ) → c ≤ length out → exit ≡ over (map f (take c order)) out → result_of (Ok c) exit ≡ listed (map f (take c order)) out
   records-fit out exit h w = listed-fits _ out c counted exit h w

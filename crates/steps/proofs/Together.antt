@@ -8,7 +8,7 @@ use lib.Dec.{eqb}
 use lib.ListN.{get_or}
 use borrow.Author.Tests.{eq-eqb, eqb-true}
 use Rattle.lists.specs.Tests.{◌and◌}
-use Rattle.lists.specs.Lists.{any, memb, turned}
+use Rattle.lists.specs.Lists.{any, memb}
 use Rattle.lists.proofs.Cases.{clash, or-true, or_right, and_left, and_right, and_both}
 use Rattle.walks.specs.Walks.{Reach, here, step}
 use Rattle.walks.proofs.Walks.{reach-trans, reach-through, reach-map}

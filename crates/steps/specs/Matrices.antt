@@ -1,7 +1,7 @@
 -- Relations between vertices, and the same said of the vertices' records. Assumes nothing.
 use Rattle.std.specs.Prelude.{◌≡◌, Bool, true, ◌||◌, ℕ, get_or}
 use Rattle.lists.specs.Tests.{◌and◌}
-use Rattle.lists.specs.Lists.{any, turned}
+use Rattle.lists.specs.Lists.{any}
 use Rattle.layout.specs.Content.{Hyperedge, Table, live_vertices, lists}
 use Rattle.layout.specs.Steps.{has_step}
 

@@ -3,7 +3,6 @@
 
 ghost use Rattle.std.specs.Prelude.{◌≡◌, true, map, ◌<◌, ◌+◌, ◌≤◌, length, take};
 ghost use Rattle.lists.specs.Lists.{over};
-ghost use Rattle.layout.specs.declared.Found.TheVariants.{At};
 ghost use Rattle.layout.specs.Content.{live_vertices, is_live, position};
 ghost use Rattle.layout.specs.Layout.{limit, vertex_limit, vertex_count, hyperedge_count, read};
 ghost use Rattle.layout.specs.Inner.{Formed};
@@ -13,19 +12,15 @@ ghost use Rattle.steps.specs.Inner.{cell, Holds, turned_between};
 ghost use Rattle.steps.specs.Ordered.{Ordered};
 ghost use Rattle.steps.specs.Drawn.{putting, Drawn};
 
-use layout::{Answer, Found, VertexIndex};
+use layout::{Answer, Refusal, VertexIndex};
 
 // The record of a live vertex.
 fn place(t: &[u32], x: u32) -> usize
     requires formed { Formed limit t.now }
     requires x_value { is_live (live_vertices (read limit t.now)) x ≡ true }
-    ensures { position x (live_vertices (read limit t.now)) ≡ At result }
+    ensures { position x (live_vertices (read limit t.now)) ≡ Some result }
 {
-    let f = find::find_vertex(t, VertexIndex(x));
-    match f {
-        Found::Nothing => 0,
-        Found::At(i) => i,
-    }
+    find::find_vertex(t, VertexIndex(x)).unwrap_or(0)
 }
 
 // One mark, where it is due.
@@ -56,12 +51,10 @@ fn draw_record(t: &[u32], j: usize, forth: bool, back: bool, m: &mut [u8; 65536]
 {
     let ms = layout::members_formed(t, j);
     let mut a = place(t, ms[0]);
-    let mut i = 0;
-    while i + 1 < ms.len() {
+    for i in 0..ms.len() - 1 {
         let b = place(t, ms[i + 1]);
         put_step(forth, back, a, b, m);
         a = b;
-        i += 1;
     }
 }
 
@@ -72,10 +65,8 @@ fn draw(t: &[u32], forth: bool, back: bool, m: &mut [u8; 65536])
     ensures { Drawn forth back t.now (hyperedge_count t.now) m.new }
 {
     let k = layout::hyperedge_count(t);
-    let mut j = 0;
-    while j < k {
+    for j in 0..k {
         draw_record(t, j, forth, back, m);
-        j += 1;
     }
 }
 
@@ -115,10 +106,8 @@ fn write_numbers(t: &[u32], order: &[u32; 256], c: usize, out: &mut [u32])
     requires c_in_bounds { (c ≤ length out.old) × Ordered (vertex_count t.now) c order.now (take c order.now) }
     ensures { out.new ≡ over (map (number_of (read limit t.now)) (take c order.now)) out.old }
 {
-    let mut k = 0;
-    while k < c {
+    for k in 0..c {
         out[k] = layout::vertex_number(t, order[k] as usize);
-        k += 1;
     }
 }
 
@@ -129,8 +118,8 @@ pub fn list_records(t: &[u32], order: &[u32; 256], c: usize, out: &mut [u32]) ->
     ensures { result_of result out.new ≡ listed (map (number_of (read limit t.now)) (take c order.now)) out.old }
 {
     if out.len() < c {
-        return Answer::NoRoom(c);
+        return Err(Refusal::NoRoom(c));
     }
     write_numbers(t, order, c, out);
-    Answer::Done(c)
+    Ok(c)
 }

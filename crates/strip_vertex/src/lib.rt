@@ -18,14 +18,12 @@ fn keep_others(t: &mut [u32], from: usize, to: usize, n: usize, v: u32) -> usize
     ensures { (result ≤ n) × ((result ≡ length (other_words v (take n (drop from t.old)))) × (t.new ≡ paste t.old to (other_words v (take n (drop from t.old))) result)) }
 {
     let mut c = 0;
-    let mut i = 0;
-    while i < n {
+    for i in 0..n {
         let x = t[from + i];
         if x != v {
             t[to + c] = x;
             c += 1;
         }
-        i += 1;
     }
     c
 }
@@ -63,11 +61,9 @@ fn strip_records(t: &mut [u32], m: usize, v: u32) -> usize
     ensures { Stripped limit v t.old m result t.new }
 {
     let mut k = 0;
-    let mut j = 0;
-    while j < m {
+    for j in 0..m {
         let c = strip_record(t, j, k, v);
         k = next_place(k, c);
-        j += 1;
     }
     k
 }

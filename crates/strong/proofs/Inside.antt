@@ -8,7 +8,7 @@ use native.Mathlib.Omega.{arith}
 use lib.Dec.{eqb}
 use lib.ListN.{get_or, take}
 use borrow.Author.Tests.{eq-eqb}
-use Rattle.lists.specs.Tests.{◌and◌, bit}
+use Rattle.lists.specs.Tests.{bit}
 use Rattle.lists.specs.Lists.{memb}
 use Rattle.lists.proofs.Cases.{on, test-ext, and_left, and_right, and_both, and-false-left, and-false-right}
 use Rattle.lists.proofs.Count.{bit-one, full}

@@ -15,10 +15,8 @@ fn free_records(ids: &[u32; 256], n: usize, free: &mut [u8; 256])
     requires { (n ≤ vertex_limit) × (length free.old ≡ vertex_limit) }
     ensures { Opened n ids.now free.new }
 {
-    let mut v = 0;
-    while v < n {
+    for v in 0..n {
         free[v] = (ids[v] == 0) as u8;
-        v += 1;
     }
 }
 
@@ -67,10 +65,8 @@ fn expand(
         return tail;
     }
     let mut end = tail;
-    let mut j = 0;
-    while j < n {
+    for j in 0..n {
         end = touch(adj, free, n, x, j, marks, order, end);
-        j += 1;
     }
     end
 }
@@ -91,6 +87,7 @@ fn serve(
     order[0] = start as u32;
     let mut tail = 1;
     let mut head = 0;
+    // The queue grows while it is read.
     while head < tail {
         let x = order[head] as usize;
         tail = expand(adj, free, n, x, marks, order, tail);
@@ -146,11 +143,9 @@ pub fn part_strong(adj: &[u8; 65536], back: &[u8; 65536], n: usize, ids: &mut [u
     let blank = [0u32; 256];
     *ids = blank;
     let mut c = 0;
-    let mut k = t;
-    while 0 < k {
-        let r = order[k - 1] as usize;
+    for k in (0..t).rev() {
+        let r = order[k] as usize;
         c = try_root(adj, back, n, r, c, ids);
-        k -= 1;
     }
     c
 }

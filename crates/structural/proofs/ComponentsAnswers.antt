@@ -1,4 +1,5 @@
 -- What the code finds of components, and what it answers. Assumes nothing.
+use Rattle.std.specs.Prelude.{Ok}
 use mathlib.Core.Path.{◌≡◌, refl, sym, ap, ◌∙◌}
 use mathlib.Core.Bool.{Bool, true, or_comm}
 use mathlib.Core.List.{List, [], map}
@@ -9,7 +10,6 @@ use borrow.Author.Tests.{eq-eqb, ne_eqb}
 use Rattle.lists.specs.Tests.{bit, every}
 use Rattle.lists.specs.Lists.{memb, flat, counted, up_to}
 use Rattle.lists.proofs.Every.{every-ext, every-on, every-no, every-end}
-use Rattle.layout.specs.declared.Answer.TheVariants.{Done}
 use Rattle.layout.specs.Layout.{limit, vertex_count, read}
 use Rattle.layout.specs.Inner.{Formed}
 use Rattle.layout.specs.Answers.{Result, result_of, listed}
@@ -73,19 +73,19 @@ module _ {ws : List ℕ} (f : Formed limit ws) where
 
   -- ---- connected or not: marks is what `marks_from` made, r what `all_marked` found
 
-  pub connected-none : (n : ℕ) → n ≡ vertex_count ws → n ≡ 0 → result_of (Done 1) [] ≡ connected_result (read limit ws)
+  pub connected-none : (n : ℕ) → n ≡ vertex_count ws → n ≡ 0 → result_of (Ok 1) [] ≡ connected_result (read limit ws)
   unfolding connected_result connected every
   connected-none n e z = rw (live-length limit ws, ← e, z)
 
   pub connected-all : {m : List ℕ} → Holds (undirected_between (read limit ws)) (vertex_count ws) m → (n : ℕ) → n ≡ vertex_count ws → (n ≡ 0 → ⊥) → (marks : List ℕ) → Marks n marks (bfs (matrix m) n 0)
-      → (r : ℕ) → r ≡ bit (every (flagged marks) n) → result_of (Done r) [] ≡ connected_result (read limit ws)
+      → (r : ℕ) → r ≡ bit (every (flagged marks) n) → result_of (Ok r) [] ≡ connected_result (read limit ws)
   unfolding connected_result connected
   connected-all {m} w n e z marks h r q =
       let E : ℕ → ℕ → Bool = undirected_between (read limit ws) in
       let k : Marks (vertex_count ws) marks (bfs (matrix m) (vertex_count ws) 0) = rw e at h in
       let same : every (flagged marks) (vertex_count ws) ≡ every (reached E (vertex_count ws) 0) (vertex_count ws) =
       every-ext (flagged marks) (reached E (vertex_count ws) 0) (vertex_count ws) (λ v l. flags-reached (matrix m) (vertex_count ws) 0 marks k v l ∙ reached-ext E w 0 v (omega arith)) in
-      rw (q, e, live-length limit ws) (ap (λ (b : Bool). result_of (Done (bit b)) []) same)
+      rw (q, e, live-length limit ws) (ap (λ (b : Bool). result_of (Ok (bit b)) []) same)
 
   -- ---- components: r is what `list_classes` gives
 

@@ -1,5 +1,6 @@
 -- What is computed is the sort, on vertex numbers: it fails exactly where steps form a closed walk, and otherwise it is the smallest
 -- order of live vertices in which every step goes forward. Assumes nothing.
+use Rattle.std.specs.Prelude.{Ok, Err}
 use mathlib.Core.Path.{◌≡◌, refl, sym, ap, ◌∙◌, subst}
 use mathlib.Core.Bool.{true, false}
 use mathlib.Core.Logic.{◌⊎◌, inl, inr, ⊎_elim}
@@ -11,7 +12,7 @@ use lib.ListN.{length}
 use borrow.Author.Tests.{eqb-true, eqb-false}
 use Rattle.lists.proofs.Cases.{on}
 use Rattle.lists.proofs.Maps.{map-length}
-use Rattle.layout.specs.declared.Answer.TheVariants.{Done, ClosedWalk}
+use Rattle.layout.specs.declared.Refusal.TheVariants.{ClosedWalk}
 use Rattle.layout.specs.Answers.{Result, result_of, listed}
 use Rattle.layout.specs.Layout.{limit, vertex_count, read}
 use Rattle.layout.specs.Inner.{Formed}
@@ -75,13 +76,13 @@ module _ {ws : List ℕ} (f : Formed limit ws) where
 
   -- steps form a closed walk: 9, with room for an answer or not
   pub closed-answers : (lent : List ℕ) → ClosedIn (read limit ws)
-      → (sort_result lent (read limit ws) ≡ result_of ClosedWalk lent) × (acyclic_result (read limit ws) ≡ result_of (Done 0) [])
+      → (sort_result lent (read limit ws) ≡ result_of (Err ClosedWalk) lent) × (acyclic_result (read limit ws) ≡ result_of (Ok 0) [])
   unfolding sort_result acyclic_result
   closed-answers lent c = (rw (closed-refused c), rw (closed-refused c))
 
   -- l is the smallest order: l, or 11 with its length
   pub smallest-answers : (lent l : List ℕ) → SmallestIn (read limit ws) l
-      → (sort_result lent (read limit ws) ≡ listed l lent) × (acyclic_result (read limit ws) ≡ result_of (Done 1) [])
+      → (sort_result lent (read limit ws) ≡ listed l lent) × (acyclic_result (read limit ws) ≡ result_of (Ok 1) [])
   unfolding sort_result acyclic_result
   smallest-answers lent l s = (rw (smallest-acyclic l s, ← smallest-sort l s), rw (smallest-acyclic l s))
 

@@ -1,4 +1,5 @@
 -- What the code finds of the sort, and what it answers. Assumes nothing.
+use Rattle.std.specs.Prelude.{Ok, Err}
 use mathlib.Core.Path.{◌≡◌, sym, ◌∙◌, subst}
 use mathlib.Core.Bool.{Bool, true, false, not}
 use mathlib.Core.List.{List, [], map}
@@ -8,7 +9,7 @@ use lib.ListN.{take}
 use borrow.Author.Tests.{not-true, not-false}
 use Rattle.lists.specs.Lists.{is_below}
 use Rattle.lists.proofs.Cases.{on}
-use Rattle.layout.specs.declared.Answer.TheVariants.{Done, ClosedWalk}
+use Rattle.layout.specs.declared.Refusal.TheVariants.{ClosedWalk}
 use Rattle.layout.specs.Layout.{limit, vertex_count, read}
 use Rattle.layout.specs.Inner.{Formed}
 use Rattle.layout.specs.Answers.{Result, result_of, listed}
@@ -65,7 +66,7 @@ module _ {ws : List ℕ} (f : Formed limit ws) {m : List ℕ} (w : Holds (steps_
 -- ---- answers: found and order are what `sort_records` gave
 
 module _ (ws : List ℕ) (found : Bool) (order : List ℕ) (s : SortedRecords ws found order) where
-  pub sort-refused : (lent : List ℕ) → not found ≡ true → result_of ClosedWalk lent ≡ sort_result lent (read limit ws)
+  pub sort-refused : (lent : List ℕ) → not found ≡ true → result_of (Err ClosedWalk) lent ≡ sort_result lent (read limit ws)
   unfolding sort_result
   sort-refused lent h = rw (← s.is, not-true found h)
 
@@ -78,10 +79,10 @@ module _ (ws : List ℕ) (found : Bool) (order : List ℕ) (s : SortedRecords ws
   sort-listed c e lent r h q =
       rw (← s.is, not-false found h, live-length limit ws) (q ∙ rw (e, (s.listing (not-false found h)).first))
 
-  pub acyclic-yes : found ≡ true → result_of (Done 1) [] ≡ acyclic_result (read limit ws)
+  pub acyclic-yes : found ≡ true → result_of (Ok 1) [] ≡ acyclic_result (read limit ws)
   unfolding acyclic_result
   acyclic-yes h = rw (← s.is, h)
 
-  pub acyclic-no : found ≡ false → result_of (Done 0) [] ≡ acyclic_result (read limit ws)
+  pub acyclic-no : found ≡ false → result_of (Ok 0) [] ≡ acyclic_result (read limit ws)
   unfolding acyclic_result
   acyclic-no h = rw (← s.is, h)

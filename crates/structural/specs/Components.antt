@@ -1,9 +1,8 @@
 -- Components of a table, by co-membership and by mutual reachability. Assumes nothing.
-use Rattle.std.specs.Prelude.{◌≡◌, Bool, List, [], map, ℕ, ◌<◌, length, get_or}
+use Rattle.std.specs.Prelude.{◌≡◌, Bool, List, [], map, ℕ, ◌<◌, length, get_or, Ok}
 use Rattle.lists.specs.Tests.{bit, every}
 use Rattle.lists.specs.Lists.{flat, counted, up_to}
 use Rattle.walks.specs.Walks.{Reach}
-use Rattle.layout.specs.declared.Answer.TheVariants.{Done}
 use Rattle.layout.specs.Content.{Table, live_vertices, is_live}
 use Rattle.layout.specs.Steps.{StepIn}
 use Rattle.layout.specs.Answers.{Result, result_of, listed}
@@ -65,7 +64,7 @@ strong_components t = map (map (number_of t)) (strong (steps_between t) (live_co
 
 -- is_connected: 1; then yes or no
 unfoldable pub connected_result : Table → Result
-connected_result t = result_of (Done (bit (connected t))) []
+connected_result t = result_of (Ok (bit (connected t))) []
 
 -- connected_components: 1, 11; each component is its length and its members
 unfoldable pub connected_components_result : List ℕ → Table → Result

@@ -1,8 +1,8 @@
 -- The sort: the lexicographically smallest order of live vertices in which every step goes forward. Assumes nothing.
-use Rattle.std.specs.Prelude.{Bool, cond, List, [], map, ℕ, eqb, length}
+use Rattle.std.specs.Prelude.{Bool, cond, List, [], map, ℕ, eqb, length, Ok, Err}
 use Rattle.lists.specs.Tests.{bit}
 use Rattle.walks.specs.Walks.{Closed}
-use Rattle.layout.specs.declared.Answer.TheVariants.{Done, ClosedWalk}
+use Rattle.layout.specs.declared.Refusal.TheVariants.{ClosedWalk}
 use Rattle.layout.specs.Content.{Table, live_vertices, is_live}
 use Rattle.layout.specs.Steps.{StepIn}
 use Rattle.layout.specs.Answers.{Result, result_of, listed}
@@ -29,8 +29,8 @@ acyclic t = eqb (length (sort_of t)) (length (live_vertices t))
 
 -- topological_sort: 1, 9, 11
 unfoldable pub sort_result : List ℕ → Table → Result
-sort_result lent t = cond (acyclic t) (listed (sort_of t) lent) (result_of ClosedWalk lent)
+sort_result lent t = cond (acyclic t) (listed (sort_of t) lent) (result_of (Err ClosedWalk) lent)
 
 -- is_acyclic: 1; then no where the sort meets 9, else yes
 unfoldable pub acyclic_result : Table → Result
-acyclic_result t = result_of (Done (bit (acyclic t))) []
+acyclic_result t = result_of (Ok (bit (acyclic t))) []

@@ -51,11 +51,13 @@ module _ (text : List ℕ) (from i : ℕ) (r : Runs text from i) where
       let d : first_line (drop i text) ≡ [] = rw (drop-cons text i 0 h, eq-eqb (get_or text i 0) 10 e) in
       record { low = r.low; high = r.high; line = rw (d, append-nil) at r.line }
 
-  pub runs-end : length text ≤ i → Ends text from i
+  pub runs-end : length text ≤ i → Ends text from (length text)
   unfolding first_line
   runs-end h =
+      let n : i ≡ length text = omega (arith, r.high) in
       let d : first_line (drop i text) ≡ [] = rw (drop_of_length-le text {i = i} h) in
-      record { low = r.low; high = r.high; line = rw (d, append-nil) at r.line }
+      let s : Ends text from i = record { low = r.low; high = r.high; line = rw (d, append-nil) at r.line } in
+      rw n at s
 
 -- ---- the next line
 

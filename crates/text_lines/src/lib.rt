@@ -9,14 +9,12 @@ pub fn line_end(text: &[u8], from: usize) -> usize
     requires { from ≤ length text.now }
     ensures { Ends text.now from result }
 {
-    let mut i = from;
-    while i < text.len() {
+    for i in from..text.len() {
         if text[i] == 10 {
             return i;
         }
-        i += 1;
     }
-    i
+    text.len()
 }
 
 // Where the line behind it begins: behind the line feed, or at the end of the text.
@@ -35,11 +33,9 @@ pub fn line_from(text: &[u8], k: usize) -> usize
     ensures { Stands text.now k result }
 {
     let mut from = 0;
-    let mut i = 0;
-    while i < k {
+    for _i in 0..k {
         let end = line_end(text, from);
         from = line_next(text, from, end);
-        i += 1;
     }
     from
 }

@@ -8,7 +8,7 @@ ghost use Rattle.layout.specs.Answers.{result_of, on_formed};
 ghost use Rattle.structural.specs.Sort.{sort_result, acyclic_result};
 ghost use Rattle.structural.specs.Sorted.{SortedRecords};
 
-use layout::Answer;
+use layout::{Answer, Refusal};
 
 // The sort by record, in the first places of `order`, and true; or false, where steps form a closed walk.
 fn sort_records(t: &[u32], order: &mut [u32; 256]) -> bool
@@ -29,7 +29,7 @@ fn sorted(t: &[u32], out: &mut [u32]) -> Answer
     let found = sort_records(t, &mut order);
     let n = layout::vertex_count(t);
     if !found {
-        return Answer::ClosedWalk;
+        return Err(Refusal::ClosedWalk);
     }
     steps::list_records(t, &order, n, out)
 }
@@ -39,7 +39,7 @@ pub fn topological_sort(t: &[u32], out: &mut [u32]) -> Answer
     ensures { result_of result out.new ≡ on_formed t.now out.old (sort_result out.old) }
 {
     if !well_formed::well_formed(t) {
-        return Answer::NotWellFormed;
+        return Err(Refusal::NotWellFormed);
     }
     sorted(t, out)
 }
@@ -50,9 +50,9 @@ fn acyclic(t: &[u32]) -> Answer
 {
     let mut order = [0u32; 256];
     if sort_records(t, &mut order) {
-        return Answer::Done(1);
+        return Ok(1);
     }
-    Answer::Done(0)
+    Ok(0)
 }
 
 // Whether no steps form a closed walk: 1 or 0.
@@ -60,7 +60,7 @@ pub fn is_acyclic(t: &[u32]) -> Answer
     ensures { result_of result [] ≡ on_formed t.now [] acyclic_result }
 {
     if !well_formed::well_formed(t) {
-        return Answer::NotWellFormed;
+        return Err(Refusal::NotWellFormed);
     }
     acyclic(t)
 }

@@ -1,4 +1,5 @@
 -- The records of a listing, and their numbers as they are written. Assumes nothing.
+use Rattle.std.specs.Prelude.{Option, Some}
 use mathlib.Core.Path.{◌≡◌, sym, ap, ◌∙◌}
 use mathlib.Core.Bool.{Bool}
 use mathlib.Core.List.{List, map}
@@ -7,13 +8,11 @@ use native.Mathlib.Omega.{arith}
 use lib.ListN.{length, take}
 use Rattle.lists.specs.Inner.{Below}
 use Rattle.lists.proofs.Count.{pigeon}
-use Rattle.layout.specs.declared.Found.{Found}
-use Rattle.layout.specs.declared.Found.TheVariants.{At, Nothing}
 use Rattle.layout.specs.Content.{live_vertices, position}
 use Rattle.layout.specs.Layout.{limit, vertex_count, read}
 use Rattle.layout.specs.Inner.{Formed}
-use Rattle.layout.specs.Answers.{Result, result_of, on_live, listed, vertex_missing}
-use Rattle.layout.proofs.Position.{found-live, missing-dead}
+use Rattle.layout.specs.Answers.{Result, on_live, listed}
+use Rattle.layout.proofs.Position.{found-live}
 use Rattle.layout.proofs.Read.{live-length}
 use Rattle.graph.specs.Reach.{matrix}
 use Rattle.graph.specs.Bfs.{bfs}
@@ -60,11 +59,7 @@ unfolding list_from
 order-listed ws i c how o r lent e = e ∙ rw (o.first, live-length limit ws)
 
 -- p is what `find_vertex` found of v
-module _ (ws : List ℕ) (v : ℕ) (p : Found) (e : p ≡ position v (live_vertices (read limit ws))) (lent : List ℕ) (how : Order) where
-  pub start-missing : p ≡ Nothing → result_of (vertex_missing v) lent ≡ traversal_result how v lent (read limit ws)
-  unfolding traversal_result on_live
-  start-missing h = rw (missing-dead v (live_vertices (read limit ws)) (sym e ∙ h))
-
-  pub start-found : (i : ℕ) (r : Result) → p ≡ At i → r ≡ listed (list_from how (read limit ws) i) lent → r ≡ traversal_result how v lent (read limit ws)
+module _ (ws : List ℕ) (v : ℕ) (p : Option ℕ) (e : p ≡ position v (live_vertices (read limit ws))) (lent : List ℕ) (how : Order) where
+  pub start-found : (i : ℕ) (r : Result) → p ≡ Some i → r ≡ listed (list_from how (read limit ws) i) lent → r ≡ traversal_result how v lent (read limit ws)
   unfolding traversal_result on_live traversal
   start-found i r h q = rw (found-live v (live_vertices (read limit ws)) i (sym e ∙ h), ← e, h) q

@@ -1,8 +1,7 @@
 -- Traversal: what a search from a vertex lists, and which vertices are reached. Assumes nothing.
-use Rattle.std.specs.Prelude.{Bool, List, [], ◌∷◌, map, ℕ, length}
+use Rattle.std.specs.Prelude.{Bool, List, [], ◌∷◌, map, ℕ, length, Ok}
 use Rattle.lists.specs.Tests.{bit}
 use Rattle.lists.specs.Lists.{memb}
-use Rattle.layout.specs.declared.Answer.TheVariants.{Done}
 use Rattle.layout.specs.Content.{Table, live_vertices, position, place}
 use Rattle.layout.specs.Answers.{Result, result_of, on_live_vertex, on_live_vertices, listed}
 use Rattle.graph.specs.Bfs.{bfs}
@@ -34,4 +33,4 @@ traversal_result how v lent t = on_live_vertex t v lent (listed (traversal how t
 
 -- is_reachable: 1, 3 for the first vertex, 3 for the second; then yes or no
 unfoldable pub reachable_result : ℕ → ℕ → Table → Result
-reachable_result x y t = on_live_vertices t (x ∷ y ∷ []) [] (result_of (Done (bit (reachable t x y))) [])
+reachable_result x y t = on_live_vertices t (x ∷ y ∷ []) [] (result_of (Ok (bit (reachable t x y))) [])

@@ -13,7 +13,7 @@ ghost use Rattle.steps.specs.Matrices.{steps_between};
 ghost use Rattle.traversal.specs.Traversal.{search_of, list_from, traversal_result, reachable_result};
 ghost use Rattle.steps.specs.Ordered.{Ordered};
 
-use layout::{Answer, Found, VertexIndex};
+use layout::{Answer, Refusal, VertexIndex};
 
 // In which order a search lists what it reaches: breadth first, or depth first in preorder.
 #[derive(Clone, Copy)]
@@ -38,25 +38,19 @@ fn reached(t: &[u32], i: usize, j: usize) -> usize
 
 fn reached_from(t: &[u32], i: usize, from: VertexIndex, to: VertexIndex) -> Answer
     requires formed { Formed limit t.now }
-    requires t_value { position from.0 (live_vertices (read limit t.now)) ≡ Found.At i }
+    requires t_value { position from.0 (live_vertices (read limit t.now)) ≡ Some i }
     ensures { result_of result [] ≡ reachable_result from.0 to.0 (read limit t.now) }
 {
-    let f = find::find_vertex(t, to);
-    match f {
-        Found::Nothing => Answer::VertexNotLive(to),
-        Found::At(j) => Answer::Done(reached(t, i, j)),
-    }
+    let j = find::find_vertex(t, to).ok_or(Refusal::VertexNotLive(to))?;
+    Ok(reached(t, i, j))
 }
 
 fn reachable(t: &[u32], from: VertexIndex, to: VertexIndex) -> Answer
     requires { Formed limit t.now }
     ensures { result_of result [] ≡ reachable_result from.0 to.0 (read limit t.now) }
 {
-    let f = find::find_vertex(t, from);
-    match f {
-        Found::Nothing => Answer::VertexNotLive(from),
-        Found::At(i) => reached_from(t, i, from, to),
-    }
+    let i = find::find_vertex(t, from).ok_or(Refusal::VertexNotLive(from))?;
+    reached_from(t, i, from, to)
 }
 
 // Whether `to` is reached from `from` by a walk along steps, of no step or more: 1 or 0.
@@ -64,7 +58,7 @@ pub fn is_reachable(t: &[u32], from: VertexIndex, to: VertexIndex) -> Answer
     ensures { result_of result [] ≡ on_formed t.now [] (reachable_result from.0 to.0) }
 {
     if !well_formed::well_formed(t) {
-        return Answer::NotWellFormed;
+        return Err(Refusal::NotWellFormed);
     }
     reachable(t, from, to)
 }
@@ -98,11 +92,8 @@ fn traverse(t: &[u32], v: VertexIndex, how: Order, out: &mut [u32]) -> Answer
     requires { Formed limit t.now }
     ensures { result_of result out.new ≡ traversal_result how v.0 out.old (read limit t.now) }
 {
-    let f = find::find_vertex(t, v);
-    match f {
-        Found::Nothing => Answer::VertexNotLive(v),
-        Found::At(i) => list_from(t, i, how, out),
-    }
+    let i = find::find_vertex(t, v).ok_or(Refusal::VertexNotLive(v))?;
+    list_from(t, i, how, out)
 }
 
 // Lists what is reached from v, breadth first, smallest neighbour first.
@@ -110,7 +101,7 @@ pub fn get_bfs(t: &[u32], v: VertexIndex, out: &mut [u32]) -> Answer
     ensures { result_of result out.new ≡ on_formed t.now out.old (traversal_result Order.BreadthFirst v.0 out.old) }
 {
     if !well_formed::well_formed(t) {
-        return Answer::NotWellFormed;
+        return Err(Refusal::NotWellFormed);
     }
     traverse(t, v, Order::BreadthFirst, out)
 }
@@ -120,7 +111,7 @@ pub fn get_dfs(t: &[u32], v: VertexIndex, out: &mut [u32]) -> Answer
     ensures { result_of result out.new ≡ on_formed t.now out.old (traversal_result Order.DepthFirst v.0 out.old) }
 {
     if !well_formed::well_formed(t) {
-        return Answer::NotWellFormed;
+        return Err(Refusal::NotWellFormed);
     }
     traverse(t, v, Order::DepthFirst, out)
 }

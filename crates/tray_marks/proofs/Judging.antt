@@ -1,4 +1,5 @@
 -- One record, from what the code found: the laws for `search`. Assumes nothing.
+use Rattle.std.specs.Prelude.{Option, Some, None}
 use mathlib.Core.Path.{◌≡◌, sym, ap, ◌∙◌}
 use mathlib.Core.Bool.{true, false, not}
 use mathlib.Core.List.{List}
@@ -7,8 +8,6 @@ use native.Mathlib.Omega.{arith}
 use lib.ListN.{set}
 use borrow.Author.Tests.{not-true, not-false, eq-eqb, ne_eqb}
 use Rattle.lists.proofs.Cases.{and-false-left, and-false-right, and_both}
-use Rattle.layout.specs.declared.Found.{Found}
-use Rattle.layout.specs.declared.Found.TheVariants.{At, Nothing}
 use Rattle.layout.specs.Content.{live_vertices, live_hyperedges, position}
 use Rattle.layout.specs.Layout.{limit, hyperedge_limit, read}
 use Rattle.layout.specs.Inner.{Formed}
@@ -20,27 +19,27 @@ use Rattle.tray_marks.specs.Marking.{OpenFormed, refused_at, vertex_marked, hype
 
 -- ---- what a search found: p is what `find_vertex`, or `find_hyperedge`, returned
 
-module _ (ws : List ℕ) (x : ℕ) (tray : Tray) (i : ℕ) (p : Found) where
+module _ (ws : List ℕ) (x : ℕ) (tray : Tray) (i : ℕ) (p : Option ℕ) where
   module _ (e : p ≡ position x (live_vertices (read limit ws))) where
-    pub vertex-missing : p ≡ Nothing → (r : Tray) → r ≡ refused_at tray i → r ≡ vertex_marked (position x (live_vertices (read limit ws))) tray i
+    pub vertex-missing : p ≡ None → (r : Tray) → r ≡ refused_at tray i → r ≡ vertex_marked (position x (live_vertices (read limit ws))) tray i
     unfolding vertex_marked
     vertex-missing h r q = q ∙ rw (← e, h)
 
-    pub vertex-there : (k : ℕ) → p ≡ At k
+    pub vertex-there : (k : ℕ) → p ≡ Some k
         → record { formed = tray.formed; faulty = tray.faulty; place = tray.place; vertices = set tray.vertices k true; hyperedges = tray.hyperedges }
         ≡ vertex_marked (position x (live_vertices (read limit ws))) tray i
     unfolding vertex_marked
     vertex-there k h = rw (← e, h)
 
   module _ (e : p ≡ position x (live_hyperedges (read limit ws))) where
-    pub hyperedge-in : (k : ℕ) → Formed limit ws → p ≡ At k → k < hyperedge_limit
+    pub hyperedge-in : (k : ℕ) → Formed limit ws → p ≡ Some k → k < hyperedge_limit
     hyperedge-in k f h = omega (arith, (hyperedge-found limit ws x k (sym e ∙ h)).0, f.shape.hyperedges-le)
 
-    pub hyperedge-missing : p ≡ Nothing → (r : Tray) → r ≡ refused_at tray i → r ≡ hyperedge_marked (position x (live_hyperedges (read limit ws))) tray i
+    pub hyperedge-missing : p ≡ None → (r : Tray) → r ≡ refused_at tray i → r ≡ hyperedge_marked (position x (live_hyperedges (read limit ws))) tray i
     unfolding hyperedge_marked
     hyperedge-missing h r q = q ∙ rw (← e, h)
 
-    pub hyperedge-there : (k : ℕ) → p ≡ At k
+    pub hyperedge-there : (k : ℕ) → p ≡ Some k
         → record { formed = tray.formed; faulty = tray.faulty; place = tray.place; vertices = tray.vertices; hyperedges = set tray.hyperedges k true }
         ≡ hyperedge_marked (position x (live_hyperedges (read limit ws))) tray i
     unfolding hyperedge_marked

@@ -1,4 +1,5 @@
 -- The records of a tray judged one after the other: none, one more, and what is known of the table. Assumes nothing.
+use Rattle.std.specs.Prelude.{Option, Some, None}
 use mathlib.Core.Path.{◌≡◌, refl, sym, ap, ◌∙◌}
 use mathlib.Core.Bool.{not}
 use mathlib.Core.List.{List, [], ◌∷◌, ◌++◌}
@@ -10,8 +11,6 @@ use lib.ListN.{length, get_or, take}
 use lib.Seq.{take-suc, length-take-le}
 use Rattle.lists.specs.Tests.{◌and◌}
 use Rattle.lists.proofs.Cases.{on}
-use Rattle.layout.specs.declared.Found.{Found}
-use Rattle.layout.specs.declared.Found.TheVariants.{At, Nothing}
 use Rattle.layout.specs.Content.{Table, live_vertices, live_hyperedges, position}
 use Rattle.layout.specs.Layout.{limit, read}
 use Rattle.layout.specs.WellFormed.{well_formed}
@@ -42,15 +41,15 @@ tray-more ws rs i h =
 
 -- ---- the table was tested
 
-vertex-formed : (p : Found) (tray : Tray) (i : ℕ) → (vertex_marked p tray i).formed ≡ tray.formed
+vertex-formed : (p : Option ℕ) (tray : Tray) (i : ℕ) → (vertex_marked p tray i).formed ≡ tray.formed
 unfolding vertex_marked refused_at
-vertex-formed (At k) tray i = refl
-vertex-formed Nothing tray i = refl
+vertex-formed (Some k) tray i = refl
+vertex-formed None tray i = refl
 
-hyperedge-formed : (p : Found) (tray : Tray) (i : ℕ) → (hyperedge_marked p tray i).formed ≡ tray.formed
+hyperedge-formed : (p : Option ℕ) (tray : Tray) (i : ℕ) → (hyperedge_marked p tray i).formed ≡ tray.formed
 unfolding hyperedge_marked refused_at
-hyperedge-formed (At k) tray i = refl
-hyperedge-formed Nothing tray i = refl
+hyperedge-formed (Some k) tray i = refl
+hyperedge-formed None tray i = refl
 
 first-formed : (t : Table) (tray : Tray) (i : ℕ) (w : Withdrawal) → (judged_first t tray i w).formed ≡ tray.formed
 unfolding judged_first refused_at

@@ -1,4 +1,5 @@
 -- What the records of a tray name is marked, or the first faulty one is found, where the table is well formed. Assumes nothing.
+use Rattle.std.specs.Prelude.{Option, Some, None}
 use mathlib.Core.Path.{◌≡◌, refl, sym, ap, ◌∙◌}
 use mathlib.Core.Bool.{Bool, true, false, not, ◌||◌, or_assoc}
 use mathlib.Core.List.{List, [], ◌∷◌, map}
@@ -10,8 +11,6 @@ use borrow.Author.Tests.{not-true, not-false, ne_eqb}
 use Rattle.lists.specs.Lists.{any, Ascending}
 use Rattle.lists.proofs.Cases.{on, on_below, clash, and_both, or-false}
 use Rattle.lists.proofs.Maps.{map-length}
-use Rattle.layout.specs.declared.Found.{Found}
-use Rattle.layout.specs.declared.Found.TheVariants.{At, Nothing}
 use Rattle.layout.specs.Content.{Table, live_vertices, live_hyperedges, is_live, position}
 use Rattle.layout.specs.Layout.{limit, read}
 use Rattle.layout.specs.WellFormed.{well_formed}
@@ -59,7 +58,7 @@ module _ {live : List ℕ} {names : ℕ → Removal → Bool} where
   }
 
   -- it names the number n, which stands at place j
-  named-one : (r : Removal) (old : List Bool) (n j : ℕ) → Ascending live → length live ≤ length old → ((x : ℕ) → names x r ≡ eqb x n) → position n live ≡ At j
+  named-one : (r : Removal) (old : List Bool) (n j : ℕ) → Ascending live → length live ≤ length old → ((x : ℕ) → names x r ≡ eqb x n) → position n live ≡ Some j
       → Named live names (r ∷ []) old (set old j true)
   unfolding any
   named-one r old n j asc le e p = record {
@@ -78,19 +77,19 @@ module _ {live : List ℕ} {names : ℕ → Removal → Bool} where
 
 -- ---- a number is live exactly where its place is found
 
-live-found : (x : ℕ) (live : List ℕ) → is_live live x ≡ true → (k : ℕ) × (position x live ≡ At k)
+live-found : (x : ℕ) (live : List ℕ) → is_live live x ≡ true → (k : ℕ) × (position x live ≡ Some k)
 live-found x live l = go (position x live) refl
   where
-    go : (p : Found) → position x live ≡ p → (k : ℕ) × (position x live ≡ At k)
-    go (At k) e = (k, e)
-    go Nothing e = clash l (missing-dead x live e)
+    go : (p : Option ℕ) → position x live ≡ p → (k : ℕ) × (position x live ≡ Some k)
+    go (Some k) e = (k, e)
+    go None e = clash l (missing-dead x live e)
 
-dead-missing : (x : ℕ) (live : List ℕ) → is_live live x ≡ false → position x live ≡ Nothing
+dead-missing : (x : ℕ) (live : List ℕ) → is_live live x ≡ false → position x live ≡ None
 dead-missing x live d = go (position x live) refl
   where
-    go : (p : Found) → position x live ≡ p → position x live ≡ Nothing
-    go (At k) e = clash (found-live x live k e) d
-    go Nothing e = e
+    go : (p : Option ℕ) → position x live ≡ p → position x live ≡ None
+    go (Some k) e = clash (found-live x live k e) d
+    go None e = e
 
 -- ---- one record
 
@@ -186,23 +185,23 @@ module _ (ws : List ℕ) where
     judged-fine : (tray : Tray) (i : ℕ) (w : Withdrawal) → Ready t tray → is_faulty t w ≡ false → AllNamed t (asked w ∷ []) tray (judged ws tray i w)
     judged-fine tray i w r e = rw (judged-first tray i w r) (first_fine t tray i w va ha r e)
 
-    from_first : (i : ℕ) (tray : Tray) (rs : List Withdrawal) → Ready t tray → (k : ℕ) → first_passing_from (is_faulty t) i rs ≡ At k
+    from_first : (i : ℕ) (tray : Tray) (rs : List Withdrawal) → Ready t tray → (k : ℕ) → first_passing_from (is_faulty t) i rs ≡ Some k
         → ((tray_from ws i tray rs).faulty ≡ true) × ((tray_from ws i tray rs).place ≡ k)
     unfolding tray_from first_passing_from refused_at
     from_first i tray [] r k e = absurd (let z : ◌≡◌ {A = ℕ} 0 1 = cc in omega arith)
     from_first i tray (w ∷ rs) r k e =
         on (is_faulty t w)
-        (λ f. let g : At i ≡ At k = rw f at e in let h : i ≡ k = cc in
+        (λ f. let g : Some i ≡ Some k = rw f at e in let h : i ≡ k = cc in
         let q : tray_from ws (suc i) (judged ws tray i w) rs ≡ refused_at tray i = rw (judged-first tray i w r, first-faulty t tray i w f) (from-faulty (suc i) (refused_at tray i) rs refl) in
         (ap (λ (x : Tray). x.faulty) q, ap (λ (x : Tray). x.place) q ∙ h))
         (λ f. from_first (suc i) (judged ws tray i w) rs (ready-more r (judged-fine tray i w r f)) k (rw f at e))
 
-    from-none : (i : ℕ) (tray : Tray) (rs : List Withdrawal) → Ready t tray → first_passing_from (is_faulty t) i rs ≡ Nothing → AllNamed t (map asked rs) tray (tray_from ws i tray rs)
+    from-none : (i : ℕ) (tray : Tray) (rs : List Withdrawal) → Ready t tray → first_passing_from (is_faulty t) i rs ≡ None → AllNamed t (map asked rs) tray (tray_from ws i tray rs)
     unfolding tray_from first_passing_from
     from-none i tray [] r e = all_none tray
     from-none i tray (w ∷ rs) r e =
         on (is_faulty t w)
-        (λ f. absurd (let g : At i ≡ Nothing = rw f at e in let z : ◌≡◌ {A = ℕ} 0 1 = cc in omega arith))
+        (λ f. absurd (let g : Some i ≡ None = rw f at e in let z : ◌≡◌ {A = ℕ} 0 1 = cc in omega arith))
         (λ f. let a = judged-fine tray i w r f in all_more a (from-none (suc i) (judged ws tray i w) rs (ready-more r a) (rw f at e)))
 
 -- ---- a whole tray on a well-formed table
@@ -221,11 +220,11 @@ module _ (ws : List ℕ) (formed : well_formed limit ws ≡ true) where
   }
 
   -- the first faulty record is found
-  pub tray-first : (rs : List Withdrawal) (k : ℕ) → first_passing (is_faulty (read limit ws)) rs ≡ At k → ((tray_of ws rs).faulty ≡ true) × ((tray_of ws rs).place ≡ k)
+  pub tray-first : (rs : List Withdrawal) (k : ℕ) → first_passing (is_faulty (read limit ws)) rs ≡ Some k → ((tray_of ws rs).faulty ≡ true) × ((tray_of ws rs).place ≡ k)
   unfolding tray_of first_passing
   tray-first rs k e = from_first ws (numbered-ascends _ _ held.vertices-numbered) (numbered-ascends _ _ held.hyperedges-numbered) zero (opened ws) rs ready-first k e
 
   -- where none is faulty, what they name is marked
-  pub tray-named : (rs : List Withdrawal) → first_passing (is_faulty (read limit ws)) rs ≡ Nothing → AllNamed (read limit ws) (map asked rs) (opened ws) (tray_of ws rs)
+  pub tray-named : (rs : List Withdrawal) → first_passing (is_faulty (read limit ws)) rs ≡ None → AllNamed (read limit ws) (map asked rs) (opened ws) (tray_of ws rs)
   unfolding tray_of first_passing
   tray-named rs e = from-none ws (numbered-ascends _ _ held.vertices-numbered) (numbered-ascends _ _ held.hyperedges-numbered) zero (opened ws) rs ready-first e

@@ -1,8 +1,6 @@
 -- The records of a tray judged one after the other, and marks on what they name. Assumes nothing.
-use Rattle.std.specs.Prelude.{◌≡◌, Bool, true, false, not, cond, List, [], ◌∷◌, ℕ, zero, suc, eqb, set, replicate}
+use Rattle.std.specs.Prelude.{◌≡◌, Bool, true, false, not, cond, List, [], ◌∷◌, ℕ, zero, suc, eqb, set, replicate, Option, Some, None}
 use Rattle.lists.specs.Tests.{◌and◌}
-use Rattle.layout.specs.declared.Found.{Found}
-use Rattle.layout.specs.declared.Found.TheVariants.{At, Nothing}
 use Rattle.layout.specs.Content.{Table, live_vertices, live_hyperedges, position}
 use Rattle.layout.specs.Layout.{limit, vertex_limit, hyperedge_limit, read}
 use Rattle.layout.specs.WellFormed.{well_formed}
@@ -28,13 +26,13 @@ unfoldable pub refused_at : Tray → ℕ → Tray
 refused_at tray i = record { formed = tray.formed; faulty = true; place = i; vertices = tray.vertices; hyperedges = tray.hyperedges }
 
 -- a search found the vertex, or the hyperedge, that the record at place i names
-unfoldable pub vertex_marked : Found → Tray → ℕ → Tray
-vertex_marked (At k) tray i = record { formed = tray.formed; faulty = tray.faulty; place = tray.place; vertices = set tray.vertices k true; hyperedges = tray.hyperedges }
-vertex_marked Nothing tray i = refused_at tray i
+unfoldable pub vertex_marked : Option ℕ → Tray → ℕ → Tray
+vertex_marked (Some k) tray i = record { formed = tray.formed; faulty = tray.faulty; place = tray.place; vertices = set tray.vertices k true; hyperedges = tray.hyperedges }
+vertex_marked None tray i = refused_at tray i
 
-unfoldable pub hyperedge_marked : Found → Tray → ℕ → Tray
-hyperedge_marked (At k) tray i = record { formed = tray.formed; faulty = tray.faulty; place = tray.place; vertices = tray.vertices; hyperedges = set tray.hyperedges k true }
-hyperedge_marked Nothing tray i = refused_at tray i
+unfoldable pub hyperedge_marked : Option ℕ → Tray → ℕ → Tray
+hyperedge_marked (Some k) tray i = record { formed = tray.formed; faulty = tray.faulty; place = tray.place; vertices = tray.vertices; hyperedges = set tray.hyperedges k true }
+hyperedge_marked None tray i = refused_at tray i
 
 -- the record at place i of a tray with no faulty one before it
 unfoldable pub judged_first : Table → Tray → ℕ → Withdrawal → Tray

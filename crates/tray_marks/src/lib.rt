@@ -7,7 +7,7 @@ ghost use Rattle.layout.specs.Layout.{limit, read};
 ghost use Rattle.layout.specs.Inner.{Formed};
 ghost use Rattle.tray_marks.specs.Marking.{OpenFormed, opened, refused_at, vertex_marked, hyperedge_marked, judged};
 
-use layout::{Found, HyperedgeIndex, VertexIndex};
+use layout::{HyperedgeIndex, VertexIndex};
 use trays::{HYPEREDGE_KIND, VERTEX_KIND, Withdrawal};
 
 // What is known of a tray after some of its records: whether the table is well formed, whether a record is faulty and the place of the first
@@ -60,15 +60,12 @@ fn mark_vertex(t: &[u32], tray: Tray, i: usize, x: u32) -> Tray
     requires { Formed limit t.now }
     ensures { result ≡ vertex_marked (position x (live_vertices (read limit t.now))) tray i }
 {
-    let f = find::find_vertex(t, VertexIndex(x));
-    match f {
-        Found::Nothing => refused_at(tray, i),
-        Found::At(k) => {
-            let mut marked = tray;
-            marked.vertices[k] = true;
-            marked
-        }
-    }
+    let Some(k) = find::find_vertex(t, VertexIndex(x)) else {
+        return refused_at(tray, i);
+    };
+    let mut marked = tray;
+    marked.vertices[k] = true;
+    marked
 }
 
 // The same of the hyperedge x.
@@ -76,15 +73,12 @@ fn mark_hyperedge(t: &[u32], tray: Tray, i: usize, x: u32) -> Tray
     requires { Formed limit t.now }
     ensures { result ≡ hyperedge_marked (position x (live_hyperedges (read limit t.now))) tray i }
 {
-    let f = find::find_hyperedge(t, HyperedgeIndex(x));
-    match f {
-        Found::Nothing => refused_at(tray, i),
-        Found::At(k) => {
-            let mut marked = tray;
-            marked.hyperedges[k] = true;
-            marked
-        }
-    }
+    let Some(k) = find::find_hyperedge(t, HyperedgeIndex(x)) else {
+        return refused_at(tray, i);
+    };
+    let mut marked = tray;
+    marked.hyperedges[k] = true;
+    marked
 }
 
 // The record at place i is faulty.

@@ -1,4 +1,5 @@
 -- What a tray is answered: 1, 15 or done; all of it is carried out, or nothing. Assumes nothing.
+use Rattle.std.specs.Prelude.{Option, Ok, Err}
 use mathlib.Core.Path.{◌≡◌, refl, sym, ap, ◌∙◌}
 use mathlib.Core.Bool.{true, false}
 use mathlib.Core.Logic.{◌⊎◌, inl, inr, ⊎_elim}
@@ -8,8 +9,7 @@ use native.Mathlib.Omega.{arith}
 use borrow.Author.Tests.{ne_eqb}
 use Rattle.lists.specs.Lists.{all}
 use Rattle.lists.proofs.Cases.{on}
-use Rattle.layout.specs.declared.Found.{Found}
-use Rattle.layout.specs.declared.Answer.TheVariants.{Done, NotWellFormed, BadRecord}
+use Rattle.layout.specs.declared.Refusal.TheVariants.{NotWellFormed, BadRecord}
 use Rattle.layout.specs.Content.{Table, live_vertices, live_hyperedges, is_live}
 use Rattle.layout.specs.Layout.{limit, read, words}
 use Rattle.layout.specs.WellFormed.{well_formed}
@@ -43,7 +43,7 @@ module _ (t : Table) (w : Withdrawal) where
 -- ---- 1
 
 -- words that are no table are refused, and nothing changes
-pub tray-unformed : (rs : List Withdrawal) (ws : List ℕ) → well_formed limit ws ≡ false → tray rs ws ≡ result_of NotWellFormed ws
+pub tray-unformed : (rs : List Withdrawal) (ws : List ℕ) → well_formed limit ws ≡ false → tray rs ws ≡ result_of (Err NotWellFormed) ws
 unfolding tray on_formed
 tray-unformed rs ws u = rw u
 
@@ -56,23 +56,23 @@ module _ (ws : List ℕ) (formed : well_formed limit ws ≡ true) where
 
   -- done, with the words of the closed form
   abbrev closed_form : List Withdrawal → Result
-  closed_form rs = result_of (Done 0) (words limit (withdrawn (map asked rs) (read limit ws)))
+  closed_form rs = result_of (Ok 0) (words limit (withdrawn (map asked rs) (read limit ws)))
 
   -- where every record names what is live in the table as it stood at the start, the end is that of one removal after the other
-  pub live-accepted : (rs : List Withdrawal) → all_live rs ws ≡ true → tray rs ws ≡ result_of (Done 0) (remove_all (map asked rs) ws)
+  pub live-accepted : (rs : List Withdrawal) → all_live rs ws ≡ true → tray rs ws ≡ result_of (Ok 0) (remove_all (map asked rs) ws)
   unfolding all_live tray_result
   live-accepted rs l =
-      let done : tray_result rs ws (read limit ws) ≡ closed_form rs = ap (λ (f : Found). on_faultless f ws (closed_form rs)) (none-faulty (read limit ws) rs l) in
-      tray-is rs ∙ done ∙ ap (λ (s : List ℕ). result_of (Done 0) s) (sym (removals-words ws formed (map asked rs)))
+      let done : tray_result rs ws (read limit ws) ≡ closed_form rs = ap (λ (f : Option ℕ). on_faultless f ws (closed_form rs)) (none-faulty (read limit ws) rs l) in
+      tray-is rs ∙ done ∙ ap (λ (s : List ℕ). result_of (Ok 0) s) (sym (removals-words ws formed (map asked rs)))
 
   -- where record i, counted from 0, is the first faulty one, 15 names i, and nothing changes
-  pub faulty-refused : (i : ℕ) (rs : List Withdrawal) → FirstFaulty i rs (read limit ws) → tray rs ws ≡ result_of (BadRecord i) ws
+  pub faulty-refused : (i : ℕ) (rs : List Withdrawal) → FirstFaulty i rs (read limit ws) → tray rs ws ≡ result_of (Err (BadRecord i)) ws
   unfolding tray_result
   faulty-refused i rs h =
-      let refused : tray_result rs ws (read limit ws) ≡ result_of (BadRecord i) ws = ap (λ (f : Found). on_faultless f ws (closed_form rs)) (found-faulty (read limit ws) i rs h) in
+      let refused : tray_result rs ws (read limit ws) ≡ result_of (Err (BadRecord i)) ws = ap (λ (f : Option ℕ). on_faultless f ws (closed_form rs)) (found-faulty (read limit ws) i rs h) in
       tray-is rs ∙ refused
 
-  refused-at : (rs : List Withdrawal) → all_live rs ws ≡ false → (i : ℕ) × FirstFaulty i rs (read limit ws) × (tray rs ws ≡ result_of (BadRecord i) ws)
+  refused-at : (rs : List Withdrawal) → all_live rs ws ≡ false → (i : ℕ) × FirstFaulty i rs (read limit ws) × (tray rs ws ≡ result_of (Err (BadRecord i)) ws)
   unfolding all_live
   refused-at rs n = let r = first-faulty (read limit ws) rs n in (r.0, r.1, faulty-refused r.0 rs r.1)
 
@@ -93,7 +93,7 @@ module _ (ws : List ℕ) (formed : well_formed limit ws ≡ true) where
       (λ n. let e = (refused-at rs n).2 in inr (ap (λ (r : Result). r.number) e, ap (λ (r : Result). r.lent) e))
 
   -- an empty tray is done, and nothing changes
-  pub empty-done : tray [] ws ≡ result_of (Done 0) ws
+  pub empty-done : tray [] ws ≡ result_of (Ok 0) ws
   unfolding all_live all remove_all
   empty-done = live-accepted [] refl
 

@@ -1,4 +1,5 @@
 -- Trays of the same records, trays one after the other, and what every tray keeps to. Assumes nothing.
+use Rattle.std.specs.Prelude.{Ok}
 use mathlib.Core.Path.{◌≡◌, sym, ap, ◌∙◌}
 use mathlib.Core.Bool.{Bool, true, not, ◌||◌, or_self, or_assoc}
 use mathlib.Core.Logic.{⊎_elim}
@@ -10,7 +11,6 @@ use Rattle.lists.proofs.Cases.{on, and_both}
 use Rattle.lists.proofs.All.{all_join, all_append}
 use Rattle.lists.proofs.Kept.{all_then, any-map}
 use Rattle.walks.specs.Walks.{Reach, Closed}
-use Rattle.layout.specs.declared.Answer.TheVariants.{Done}
 use Rattle.layout.specs.Content.{live_hyperedges, is_live}
 use Rattle.layout.specs.Layout.{limit, read}
 use Rattle.layout.specs.WellFormed.{well_formed}
@@ -39,7 +39,7 @@ repeat-same {w} {rs} twice once p =
     any-permutes p twice ∙ sym (or_assoc (p w) (p w) (any p rs)) ∙ ap (λ (b : Bool). b || any p rs) (or_self (p w)) ∙ sym (any-permutes p once)
 
 module _ (ws : List ℕ) (formed : well_formed limit ws ≡ true) where
-  done_end : (rs : List Withdrawal) → Accepted rs ws → tray rs ws ≡ result_of (Done 0) (remove_all (map asked rs) ws)
+  done_end : (rs : List Withdrawal) → Accepted rs ws → tray rs ws ≡ result_of (Ok 0) (remove_all (map asked rs) ws)
   done_end rs a = live-accepted ws formed rs (accepted-live ws formed rs a)
 
   module _ (rs ss : List Withdrawal) (q : SameRecords rs ss) where
@@ -53,7 +53,7 @@ module _ (ws : List ℕ) (formed : well_formed limit ws ≡ true) where
     accepted-alike : Accepted rs ws → tray ss ws ≡ tray rs ws
     accepted-alike a =
         live-accepted ws formed ss (sym live_same ∙ accepted-live ws formed rs a)
-        ∙ ap (λ (s : List ℕ). result_of (Done 0) s) (sym removals-alike) ∙ sym (done_end rs a)
+        ∙ ap (λ (s : List ℕ). result_of (Ok 0) s) (sym removals-alike) ∙ sym (done_end rs a)
 
   -- trays of the same records end alike, accepted or refused
   pub same_end : (rs ss : List Withdrawal) → SameRecords rs ss → SameEnd rs ss ws
@@ -110,7 +110,7 @@ module _ (ws : List ℕ) (formed : well_formed limit ws ≡ true) where
         let t = read limit ws in
         let p = all_append (names_live t) xs ys (accepted-live ws formed (xs ++ ys) a) in
         live-accepted ws formed (xs ++ (w ∷ ys)) (all_join (names_live t) xs (w ∷ ys) p.0 (and_both _ _ ((kind_1 t w kind).0 ∙ l) p.1))
-        ∙ ap (λ (s : List ℕ). result_of (Done 0) s) (emptied-before e) ∙ sym (done_end (xs ++ ys) a)
+        ∙ ap (λ (s : List ℕ). result_of (Ok 0) s) (emptied-before e) ∙ sym (done_end (xs ++ ys) a)
 
   -- ---- one tray after the other
 
@@ -134,7 +134,7 @@ module _ (ws : List ℕ) (formed : well_formed limit ws ≡ true) where
       let f : well_formed limit s ≡ true = removals-formed ws formed (map asked rs) in
       let l : all (names_live (read limit s)) ss ≡ true = accepted-live s f ss (rw e at b) in
       live-accepted ws formed (rs ++ ss) (all_join (names_live t) rs ss (accepted-live ws formed rs a) (all_then _ (names_live t) ss (named-before (map asked rs)) l))
-      ∙ ap (λ (u : List ℕ). result_of (Done 0) u) (ap (λ (r : List Removal). remove_all r ws) (map-append asked rs ss) ∙ removals-append (map asked rs) (map asked ss) ws)
+      ∙ ap (λ (u : List ℕ). result_of (Ok 0) u) (ap (λ (r : List Removal). remove_all r ws) (map-append asked rs ss) ∙ removals-append (map asked rs) (map asked ss) ws)
       ∙ sym (live-accepted s f ss l) ∙ ap (tray ss) (sym e)
 
   -- ---- every tray, accepted or refused

@@ -1,8 +1,6 @@
 -- A tray: a list of records, each a kind and a number, withdrawn all or none. Assumes nothing.
-use Rattle.std.specs.Prelude.{Bool, false, not, cond, List, map, ℕ, eqb}
-use Rattle.layout.specs.declared.Found.{Found}
-use Rattle.layout.specs.declared.Found.TheVariants.{At, Nothing}
-use Rattle.layout.specs.declared.Answer.TheVariants.{Done, BadRecord}
+use Rattle.std.specs.Prelude.{Bool, false, not, cond, List, map, ℕ, eqb, Option, Some, None, Ok, Err}
+use Rattle.layout.specs.declared.Refusal.TheVariants.{BadRecord}
 use Rattle.layout.specs.Content.{Table, live_vertices, live_hyperedges, is_live}
 use Rattle.layout.specs.Layout.{limit, words}
 use Rattle.layout.specs.Answers.{Result, result_of, on_formed}
@@ -32,13 +30,13 @@ unfoldable pub asked : Withdrawal → Removal
 asked w = cond (eqb w.kind vertex_kind) (vertex w.number) (hyperedge w.number)
 
 -- 15: a faulty record; the position, from 0, of the first
-abbrev pub on_faultless : Found → List ℕ → Result → Result
-on_faultless (At i) lent r = result_of (BadRecord i) lent
-on_faultless Nothing lent r = r
+abbrev pub on_faultless : Option ℕ → List ℕ → Result → Result
+on_faultless (Some i) lent r = result_of (Err (BadRecord i)) lent
+on_faultless None lent r = r
 
 -- withdraw_tray: 1, 15; every record is judged against the table as it stood at the start, then all are carried out
 unfoldable pub tray_result : List Withdrawal → List ℕ → Table → Result
-tray_result rs ws t = on_faultless (first_passing (is_faulty t) rs) ws (result_of (Done 0) (words limit (withdrawn (map asked rs) t)))
+tray_result rs ws t = on_faultless (first_passing (is_faulty t) rs) ws (result_of (Ok 0) (words limit (withdrawn (map asked rs) t)))
 
 -- the call: what it answers and leaves
 unfoldable pub tray : List Withdrawal → List ℕ → Result

@@ -17,13 +17,13 @@ use trays::Withdrawal;
 pub fn vs_desk_add_vertex(t: &mut [u32], s: &mut [u32], weight: u32) -> Reply
     ensures { replied_at result (desk_of t.new s.new) ≡ desk_edit (add_vertex weight) (desk_of t.old s.old) }
 {
-    layout::reply_of(desk_edits::desk_add_vertex(t, s, weight))
+    Reply::from(desk_edits::desk_add_vertex(t, s, weight))
 }
 
 pub fn vs_desk_add_hyperedge(t: &mut [u32], s: &mut [u32], members: &[u32], weight: u32) -> Reply
     ensures { replied_at result (desk_of t.new s.new) ≡ desk_edit (add_hyperedge members.now weight) (desk_of t.old s.old) }
 {
-    layout::reply_of(desk_edits::desk_add_hyperedge(t, s, members, weight))
+    Reply::from(desk_edits::desk_add_hyperedge(t, s, members, weight))
 }
 
 pub fn vs_desk_update_hyperedge_vertices(
@@ -34,47 +34,47 @@ pub fn vs_desk_update_hyperedge_vertices(
 ) -> Reply
     ensures { replied_at result (desk_of t.new s.new) ≡ desk_edit (update e.0 members.now) (desk_of t.old s.old) }
 {
-    layout::reply_of(desk_edits::desk_update_hyperedge_vertices(t, s, e, members))
+    Reply::from(desk_edits::desk_update_hyperedge_vertices(t, s, e, members))
 }
 
 // Removes the vertex, which loses its state.
 pub fn vs_desk_remove_vertex(t: &mut [u32], s: &mut [u32], v: VertexIndex) -> Reply
     ensures { replied_at result (desk_of t.new s.new) ≡ desk_edit (remove (vertex v.0)) (desk_of t.old s.old) }
 {
-    layout::reply_of(desk_removals::desk_remove_vertex(t, s, v))
+    Reply::from(desk_removals::desk_remove_vertex(t, s, v))
 }
 
 pub fn vs_desk_remove_hyperedge(t: &mut [u32], s: &mut [u32], e: HyperedgeIndex) -> Reply
     ensures { replied_at result (desk_of t.new s.new) ≡ desk_edit (remove (hyperedge e.0)) (desk_of t.old s.old) }
 {
-    layout::reply_of(desk_edits::desk_remove_hyperedge(t, s, e))
+    Reply::from(desk_edits::desk_remove_hyperedge(t, s, e))
 }
 
 // Merges w into v: w loses its state, v keeps its own.
 pub fn vs_desk_merge_vertices(t: &mut [u32], s: &mut [u32], v: VertexIndex, w: VertexIndex) -> Reply
     ensures { replied_at result (desk_of t.new s.new) ≡ desk_edit (merge v.0 w.0) (desk_of t.old s.old) }
 {
-    layout::reply_of(desk_removals::desk_merge_vertices(t, s, v, w))
+    Reply::from(desk_removals::desk_merge_vertices(t, s, v, w))
 }
 
 pub fn vs_desk_withdraw_tray(t: &mut [u32], s: &mut [u32], records: &[Withdrawal]) -> Reply
     ensures { replied_at result (desk_of t.new s.new) ≡ desk_edit (withdraw records.now) (desk_of t.old s.old) }
 {
-    layout::reply_of(desk_tray::desk_withdraw_tray(t, s, records))
+    Reply::from(desk_tray::desk_withdraw_tray(t, s, records))
 }
 
 // Zeroes every word of the table, and every state.
 pub fn vs_desk_clear(t: &mut [u32], s: &mut [u32]) -> Reply
     ensures { replied_at result (desk_of t.new s.new) ≡ desk_clear (desk_of t.old s.old) }
 {
-    layout::reply_of(desk_anew::desk_clear(t, s))
+    Reply::from(desk_anew::desk_clear(t, s))
 }
 
 // Reads frame text into the table; where it is read, every state is zeroed.
 pub fn vs_desk_read_frames(t: &mut [u32], s: &mut [u32], text: &[u8]) -> Reply
     ensures { replied_at result (desk_of t.new s.new) ≡ desk_read text.now (desk_of t.old s.old) }
 {
-    layout::reply_of(desk_anew::desk_read_frames(t, s, text))
+    Reply::from(desk_anew::desk_read_frames(t, s, text))
 }
 
 // ---- Review and release
@@ -83,21 +83,21 @@ pub fn vs_desk_read_frames(t: &mut [u32], s: &mut [u32], text: &[u8]) -> Reply
 pub fn vs_desk_review(t: &[u32], s: &mut [u32], v: VertexIndex) -> Reply
     ensures { replied result s.new ≡ on_desk (desk_of t.now s.old) s.old (review_result v.0 s.old) }
 {
-    layout::reply_of(desk_review::desk_review(t, s, v))
+    Reply::from(desk_review::desk_review(t, s, v))
 }
 
 // Releases the vertex where it is reviewed and every vertex with a step into it is released.
 pub fn vs_desk_release(t: &[u32], s: &mut [u32], v: VertexIndex) -> Reply
     ensures { replied result s.new ≡ on_desk (desk_of t.now s.old) s.old (release_result v.0 s.old) }
 {
-    layout::reply_of(desk_release::desk_release(t, s, v))
+    Reply::from(desk_release::desk_release(t, s, v))
 }
 
 // Accepts an order that lists every live vertex once, every step forward.
 pub fn vs_desk_accept_order(t: &[u32], s: &[u32], order: &[u32]) -> Reply
     ensures { replied result [] ≡ on_desk (desk_of t.now s.now) [] (accept_result order.now) }
 {
-    layout::reply_of(desk_order::desk_accept_order(t, s, order))
+    Reply::from(desk_order::desk_accept_order(t, s, order))
 }
 
 // ---- Looking
@@ -106,19 +106,19 @@ pub fn vs_desk_accept_order(t: &[u32], s: &[u32], order: &[u32]) -> Reply
 pub fn vs_desk_state(t: &[u32], s: &[u32], v: VertexIndex) -> Reply
     ensures { replied result [] ≡ on_desk (desk_of t.now s.now) [] (state_result v.0 s.now) }
 {
-    layout::reply_of(desk_looks::desk_state(t, s, v))
+    Reply::from(desk_looks::desk_state(t, s, v))
 }
 
 // The vertices in the state.
 pub fn vs_desk_list(t: &[u32], s: &[u32], state: u32, out: &mut [u32]) -> Reply
     ensures { replied result out.new ≡ on_desk (desk_of t.now s.now) out.old (list_result state s.now out.old) }
 {
-    layout::reply_of(desk_looks::desk_list(t, s, state, out))
+    Reply::from(desk_looks::desk_list(t, s, state, out))
 }
 
 // The vertices that a release would release now.
 pub fn vs_desk_releasable(t: &[u32], s: &[u32], out: &mut [u32]) -> Reply
     ensures { replied result out.new ≡ on_desk (desk_of t.now s.now) out.old (releasable_result s.now out.old) }
 {
-    layout::reply_of(desk_releasable::desk_releasable(t, s, out))
+    Reply::from(desk_releasable::desk_releasable(t, s, out))
 }

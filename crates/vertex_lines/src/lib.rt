@@ -32,8 +32,7 @@ fn vertices_from(
     let mut at = place;
     let mut low = 0;
     let mut to = layout::VERTICES_AT;
-    let mut i = 0;
-    while i < n {
+    for i in 0..n {
         let end = vertex_end(values, text, at, low, next - (n - i));
         if end == at {
             return Walked { lines: i, at };
@@ -41,9 +40,8 @@ fn vertices_from(
         low = number_at(values, text, at + NUMBER_AT) + 1;
         to = put_vertex(words, to, values, text, at);
         at = end;
-        i += 1;
     }
-    Walked { lines: i, at }
+    Walked { lines: n, at }
 }
 
 // The same, with the head's numbers from the words.

@@ -10,7 +10,7 @@ ghost use Rattle.lookups.specs.Lookups.{has_vertex_weighing};
 ghost use Rattle.lookups.specs.State.{weighs_at};
 ghost use Rattle.lookups.specs.Results.{contains_result, vertex_index_result};
 
-use layout::Answer;
+use layout::{Answer, Refusal};
 
 // Marks the records of a weight among the n live vertices.
 fn mark_weighing(t: &[u32], n: usize, weight: u32) -> [bool; 256]
@@ -19,10 +19,8 @@ fn mark_weighing(t: &[u32], n: usize, weight: u32) -> [bool; 256]
     ensures { ((k : ℕ) → k < n → is_marked result k ≡ weighs_at weight t.now k) }
 {
     let mut marks = [false; 256];
-    let mut k = 0;
-    while k < n {
+    for k in 0..n {
         marks[k] = layout::vertex_weight(t, k) == weight;
-        k += 1;
     }
     marks
 }
@@ -41,7 +39,7 @@ pub fn get_vertex_index(t: &[u32], weight: u32, out: &mut [u32]) -> Answer
     ensures { result_of result out.new ≡ on_formed t.now out.old (vertex_index_result weight out.old) }
 {
     if !well_formed::well_formed(t) {
-        return Answer::NotWellFormed;
+        return Err(Refusal::NotWellFormed);
     }
     list_weighing(t, weight, out)
 }
@@ -51,12 +49,10 @@ fn has_weight(t: &[u32], weight: u32) -> bool
     ensures { result ≡ has_vertex_weighing weight (read limit t.now) }
 {
     let n = layout::vertex_count(t);
-    let mut k = 0;
-    while k < n {
+    for k in 0..n {
         if layout::vertex_weight(t, k) == weight {
             return true;
         }
-        k += 1;
     }
     false
 }
@@ -66,9 +62,9 @@ fn contains_formed(t: &[u32], weight: u32) -> Answer
     ensures { result_of result [] ≡ contains_result weight (read limit t.now) }
 {
     if has_weight(t, weight) {
-        return Answer::Done(1);
+        return Ok(1);
     }
-    Answer::Done(0)
+    Ok(0)
 }
 
 // Whether a vertex has the weight.
@@ -76,7 +72,7 @@ pub fn contains_vertex(t: &[u32], weight: u32) -> Answer
     ensures { result_of result [] ≡ on_formed t.now [] (contains_result weight) }
 {
     if !well_formed::well_formed(t) {
-        return Answer::NotWellFormed;
+        return Err(Refusal::NotWellFormed);
     }
     contains_formed(t, weight)
 }

@@ -1,4 +1,5 @@
 -- Laws of the rows of the records that list each vertex. Assumes nothing.
+use Rattle.std.specs.Prelude.{Option, Some, None}
 use Rattle.std.proofs.Common.{◌≡◌, ℕ, ◌+◌, ◌*◌, ◌<◌, ◌≤◌, Bool, true, false, cond, not, List, [], ◌∷◌, ◌++◌, length, get_or, take, set, replicate, sym, refl, ap, ◌∙◌, subst, add-one, arith, take_all, take-suc}
 use borrow.Author.Tests.{not-true, not-false}
 use Rattle.lists.specs.Lists.{memb}
@@ -7,8 +8,6 @@ use Rattle.lists.proofs.Memb.{memb-snoc-self, memb-snoc-other, memb-getD, below-
 use Rattle.lists.proofs.Ascend.{ascending-apart}
 use Rattle.lists.proofs.Count.{count-le}
 use Rattle.lists.proofs.Chosen.{chosen-in, chosen-out, chosen_none, chosen-count}
-use Rattle.layout.specs.declared.Found.{Found}
-use Rattle.layout.specs.declared.Found.TheVariants.{At, Nothing}
 use Rattle.layout.specs.Content.{live_vertices, position}
 use Rattle.layout.specs.Layout.{limit, vertex_limit, vertex_count, hyperedge_count, members_at, read}
 use Rattle.layout.specs.Inner.{Formed}
@@ -89,16 +88,16 @@ module _ (ws : List ℕ) (k p x : ℕ) (h : p < length (members_at limit ws k)) 
 
   -- a member that did not: its row has one place more
   module _ (f : Formed limit ws) {rows counts : List ℕ} (w : Entering ws k p rows counts) (lk : k < hyperedge_count ws) {firsts : List Bool} (m : Firsts ws firsts)
-      (n : not (get_or firsts (cell k p) false) ≡ false) (fd : Found) (efd : fd ≡ position x (live_vertices (read limit ws))) where
+      (n : not (get_or firsts (cell k p) false) ≡ false) (fd : Option ℕ) (efd : fd ≡ position x (live_vertices (read limit ws))) where
     first : is_first ms p ≡ true
     first = sym (m.before k p lk h) ∙ not-false _ n
 
-    pub enter-none : fd ≡ Nothing → Entering ws k (p + 1) rows counts
+    pub enter-none : fd ≡ None → Entering ws k (p + 1) rows counts
     enter-none q =
         rows_ext w (entering ws k (p + 1))
         (λ i l. entering-same ws k (p + 1) p i (memb-other _ (position-missing x (live_vertices (read limit ws)) (sym efd ∙ q) i (rw (live-length limit ws) l))))
 
-    module _ (a : ℕ) (q : fd ≡ At a) where
+    module _ (a : ℕ) (q : fd ≡ Some a) where
       place : (a < length (live_vertices (read limit ws))) × (number_of (read limit ws) a ≡ x)
       place = position-found x (live_vertices (read limit ws)) a (sym efd ∙ q)
 

@@ -1,7 +1,6 @@
 -- Laws of the distinct other members. Assumes nothing.
-use Rattle.std.proofs.Common.{◌≡◌, ℕ, ◌+◌, ◌%◌, ◌<◌, ◌≤◌, Bool, true, false, not, List, [], ◌∷◌, map, length, get_or, take, set, sym, refl, ap, ◌∙◌, mod-lt, le_antisymm, suc-ne-zero, add-one, arith, length-set, get_or-take, take-suc, get_or-set_same, eq-eqb, ne_eqb}
+use Rattle.std.proofs.Common.{◌≡◌, ℕ, ◌+◌, ◌%◌, ◌<◌, ◌≤◌, Bool, true, false, List, [], ◌∷◌, map, length, get_or, take, set, sym, refl, ap, ◌∙◌, mod-lt, le_antisymm, suc-ne-zero, add-one, arith, length-set, get_or-take, take-suc, get_or-set_same, eq-eqb, ne_eqb}
 use lib.Seq.{take-set-le}
-use borrow.Author.Tests.{not-true, not-false}
 use Rattle.lists.specs.Tests.{count, chosen}
 use Rattle.lists.proofs.Maps.{map-length, map_snoc}
 use Rattle.lists.proofs.Count.{count-le, count-in, count-out}
@@ -58,10 +57,10 @@ picked_none v ms found h l = record { few = h; within = omega arith; at_most = o
 
 module _ (v : ℕ) (ms found : List ℕ) (c i : ℕ) (inv : Picked v ms found c i) where
   module _ (h : i < length ms) (r : Bool) (e : r ≡ is_first_other v ms i) where
-    pub picked-skip : not r ≡ true → Picked v ms found c (i + 1)
-    picked-skip q =
-        let o : is_first_other v ms i ≡ false = sym e ∙ not-true r q in
-        record {
+    pub picked-skip : r ≡ false → {k : ℕ} {next : List ℕ} → k ≡ c → next ≡ found → Picked v ms next k (i + 1)
+    picked-skip q ek en =
+        let o : is_first_other v ms i ≡ false = sym e ∙ q in
+        rw (ek, en) record {
           few = inv.few;
           within = omega arith;
           at_most = omega (arith, inv.at_most);
@@ -70,11 +69,11 @@ module _ (v : ℕ) (ms found : List ℕ) (c i : ℕ) (inv : Picked v ms found c 
           taken = rw (chosen-out (is_first_other v ms) i o) inv.taken;
         }
 
-    pub picked-on : not r ≡ false → (x : ℕ) → x ≡ get_or ms i 0 → Picked v ms (set found c x) (c + 1) (i + 1)
-    picked-on q x ex =
-        let o : is_first_other v ms i ≡ true = sym e ∙ not-false r q in
+    pub picked-on : r ≡ true → (x : ℕ) → x ≡ get_or ms i 0 → {k : ℕ} {next : List ℕ} → k ≡ c + 1 → next ≡ set found c x → Picked v ms next k (i + 1)
+    picked-on q x ex ek en =
+        let o : is_first_other v ms i ≡ true = sym e ∙ q in
         let s : c < length found = omega (arith, inv.few, inv.sized, inv.at_most) in
-        record {
+        rw (ek, en) record {
           few = inv.few;
           within = omega arith;
           at_most = omega (arith, inv.at_most);

@@ -1,4 +1,5 @@
 -- Laws of a move and of the walk. Assumes nothing.
+use Rattle.std.specs.Prelude.{Option, Some, None, Ok, Err}
 use Rattle.std.proofs.Common.{◌≡◌, ℕ, zero, suc, ◌+◌, ◌-◌, ◌<◌, ◌≤◌, true, false, List, [], ◌∷◌, ◌++◌, map, length, get_or, set, sym, refl, ap, ◌∙◌, append_assoc, append-nil, suc-ne-zero, arith, length-append, length-set, eq-eqb, ne_eqb, le-leb}
 use borrow.Author.Tests.{lt-leb}
 use Rattle.lists.specs.Lists.{all, filter, over}
@@ -6,19 +7,17 @@ use Rattle.lists.proofs.Cases.{on, clash, and_left, and_right}
 use Rattle.lists.proofs.Memb.{memb-at}
 use Rattle.lists.proofs.All.{all-at}
 use Rattle.lists.proofs.Chosen.{over_none, over-more}
-use Rattle.layout.specs.declared.Found.{Found}
-use Rattle.layout.specs.declared.Found.TheVariants.{At, Nothing}
-use Rattle.layout.specs.declared.Answer.TheVariants.{Done, NoRoom}
+use Rattle.layout.specs.declared.Refusal.TheVariants.{NoRoom}
 use Rattle.layout.specs.Content.{Hyperedge, Table, live_vertices, is_live, lists, hyperedges_of, members_live, valid, position}
 use Rattle.layout.specs.Layout.{limit, vertex_count, members_at, hyperedge_at, read_hyperedges, read}
 use Rattle.layout.specs.Inner.{Formed}
-use Rattle.layout.specs.Answers.{Result, result_of, vertex_missing, listed}
+use Rattle.layout.specs.Answers.{result_of, listed}
 use Rattle.layout.proofs.Position.{position-found, missing-dead}
 use Rattle.layout.proofs.Read.{vertex-found}
-use Rattle.layout.proofs.Answers.{on-missing, on-found, listed-over, listed-fits}
+use Rattle.layout.proofs.Answers.{listed-over, listed-fits}
 use Rattle.steps.specs.Matrices.{number_of}
 use Rattle.walk.specs.declared.Walker.{Walker}
-use Rattle.walk.specs.Walk.{xorshift, sample, total_weight, last_of, first_greater, other_members, to_one_of, walker, move_along, move, walk_from, step_limit, cut, first_state, walk, walk_result}
+use Rattle.walk.specs.Walk.{xorshift, sample, total_weight, last_of, first_greater, other_members, to_one_of, walker, move_along, move, walk_from, step_limit, cut, first_state, walk}
 use Rattle.walk.specs.Passes.{listers_of, records_at, TakenBy}
 use Rattle.walk.proofs.Listing.{hyperedges-are}
 
@@ -43,7 +42,7 @@ unfolding move_along
 nowhere w = refl
 
 -- the walker stands at the vertex of record i
-module _ (ws : List ℕ) (w : Walker) (i : ℕ) (p : position w.at (live_vertices (read limit ws)) ≡ At i) where
+module _ (ws : List ℕ) (w : Walker) (i : ℕ) (p : position w.at (live_vertices (read limit ws)) ≡ Some i) where
   pub stands : i < vertex_count ws
   stands = (vertex-found limit ws w.at i p).0
 
@@ -82,13 +81,13 @@ unlisted live v d (e ∷ es) h =
     (λ q. rw q (unlisted live v d es (and_right _ _ h)))
 
 -- p is what `find_vertex` returned
-module _ (ws : List ℕ) (w : Walker) (p : Found) (e : p ≡ position w.at (live_vertices (read limit ws))) where
-  pub move-dead : Formed limit ws → p ≡ Nothing → w ≡ move (read limit ws) w
+module _ (ws : List ℕ) (w : Walker) (p : Option ℕ) (e : p ≡ position w.at (live_vertices (read limit ws))) where
+  pub move-dead : Formed limit ws → p ≡ None → w ≡ move (read limit ws) w
   unfolding move move_along hyperedges_of valid
   move-dead f h =
       rw (unlisted (live_vertices (read limit ws)) w.at (missing-dead w.at (live_vertices (read limit ws)) (sym e ∙ h)) (read_hyperedges limit ws) (and_right _ _ (and_right _ _ f.content)))
 
-  pub found_here : (i : ℕ) → p ≡ At i → position w.at (live_vertices (read limit ws)) ≡ At i
+  pub found_here : (i : ℕ) → p ≡ Some i → position w.at (live_vertices (read limit ws)) ≡ Some i
   found_here i h = sym e ∙ h
 
 -- ---- the loop that writes the vertices: i are written, and the walk goes on from the vertex with the state
@@ -154,19 +153,10 @@ module _ (t : Table) (start steps seed n k : ℕ) (out : List ℕ) (ek : k ≡ c
   unfolding walk
   counted = en ∙ ap (λ (i : ℕ). i + 1) ek ∙ sym (walk-from-length t (walker start (first_state seed)) (cut steps + 1))
 
-  pub walk-over : length out < n → result_of (NoRoom n) out ≡ listed (walk t start steps seed) out
+  pub walk-over : length out < n → result_of (Err (NoRoom n)) out ≡ listed (walk t start steps seed) out
   walk-over h = listed-over _ out n counted h
 
   pub walk-fits : (state : ℕ) (exit : List ℕ) → n ≤ length out → state ≡ first_state seed → exit ≡ over (walk_from t (walker start state) n) out
-      → result_of (Done n) exit ≡ listed (walk t start steps seed) out
+      → result_of (Ok n) exit ≡ listed (walk t start steps seed) out
   unfolding walk
   walk-fits state exit h s q = listed-fits _ out n counted exit h (q ∙ rw (s, en, ek))
-
-module _ (ws : List ℕ) (start steps seed : ℕ) (lent : List ℕ) (p : Found) (e : p ≡ position start (live_vertices (read limit ws))) where
-  pub start-missing : p ≡ Nothing → result_of (vertex_missing start) lent ≡ walk_result start steps seed lent (read limit ws)
-  unfolding walk_result
-  start-missing h = on-missing (live_vertices (read limit ws)) vertex_missing start lent _ p e h
-
-  pub start-found : (i : ℕ) (r : Result) → p ≡ At i → r ≡ listed (walk (read limit ws) start steps seed) lent → r ≡ walk_result start steps seed lent (read limit ws)
-  unfolding walk_result
-  start-found i r h q = q ∙ on-found (live_vertices (read limit ws)) vertex_missing start lent _ p e i h

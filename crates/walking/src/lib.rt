@@ -9,7 +9,7 @@ ghost use Rattle.layout.specs.Inner.{Formed};
 ghost use Rattle.walk.specs.Walk.{move, walk_from};
 ghost use Rattle.walk.specs.Passes.{Prepared};
 
-use layout::{Found, VertexIndex};
+use layout::VertexIndex;
 use moves::{drawn_hyperedge, lister_count, to_one_of};
 use walk::{Walker, xorshift};
 
@@ -23,7 +23,7 @@ fn step_from(
     w: Walker,
 ) -> Walker
     requires formed { Formed limit t.now }
-    requires t_value { (position w.at (live_vertices (read limit t.now)) ≡ Found.At i) × Prepared t.now firsts.now rows.now counts.now }
+    requires t_value { (position w.at (live_vertices (read limit t.now)) ≡ Some i) × Prepared t.now firsts.now rows.now counts.now }
     ensures { result ≡ move (read limit t.now) w }
 {
     let n = lister_count(t, rows, counts, i);
@@ -46,11 +46,10 @@ fn step(
     requires prepared { Prepared t.now firsts.now rows.now counts.now }
     ensures { result ≡ move (read limit t.now) w }
 {
-    let f = find::find_vertex(t, VertexIndex(w.at));
-    match f {
-        Found::Nothing => w,
-        Found::At(i) => step_from(t, firsts, rows, counts, i, w),
-    }
+    let Some(i) = find::find_vertex(t, VertexIndex(w.at)) else {
+        return w;
+    };
+    step_from(t, firsts, rows, counts, i, w)
 }
 
 // Writes the first n vertices from w on.
@@ -69,12 +68,10 @@ pub fn write_walk(
 {
     let mut at = w.at;
     let mut state = w.state;
-    let mut i = 0;
-    while i < n {
+    for i in 0..n {
         out[i] = at;
         let next = step(t, firsts, rows, counts, Walker { at, state });
         at = next.at;
         state = next.state;
-        i += 1;
     }
 }

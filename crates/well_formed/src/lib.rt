@@ -25,12 +25,10 @@ fn all_members_below(t: &[u32], n: u32, m: usize) -> bool
     requires m_value { every (record_shaped limit t.now) m ≡ true }
     ensures { result ≡ every (record_below limit n t.now) m }
 {
-    let mut j = 0;
-    while j < m {
+    for j in 0..m {
         if !members_below(t, n, j) {
             return false;
         }
-        j += 1;
     }
     true
 }

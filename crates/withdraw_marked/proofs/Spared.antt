@@ -1,4 +1,5 @@
 -- A mark looked up by a record's place says what the number's mark says. Assumes nothing.
+use Rattle.std.specs.Prelude.{Option, Some, None}
 use mathlib.Core.Path.{◌≡◌, ap}
 use mathlib.Core.Bool.{Bool, true, not}
 use mathlib.Core.List.{List}
@@ -6,8 +7,6 @@ use Prim.Native.Nat.{ℕ, ◌<◌}
 use lib.ListN.{length, get_or}
 use Rattle.lists.specs.Lists.{filter, Ascending}
 use Rattle.lists.proofs.Tab.{length-tab, getD-tab}
-use Rattle.layout.specs.declared.Found.{Found}
-use Rattle.layout.specs.declared.Found.TheVariants.{At, Nothing}
 use Rattle.layout.specs.Content.{live_vertices, live_hyperedges, position}
 use Rattle.layout.specs.Layout.{limit, vertex_word, hyperedge_word, vertex_count, hyperedge_count, vertex_at, hyperedge_at, read_vertices, read_hyperedges, read}
 use Rattle.layout.specs.Inner.{Formed}
@@ -20,19 +19,19 @@ use Rattle.withdraw_marked.specs.Sparing.{mark_at, spared, spared_vertex, spared
 use Rattle.withdraw_marked.specs.Sifting.{member_spared}
 
 -- for `search`: p is what `find_vertex` found of x
-module _ (marks : List Bool) (ws : List ℕ) (x : ℕ) (p : Found) (q : p ≡ position x (live_vertices (read limit ws))) where
-  pub spared-none : p ≡ Nothing → true ≡ member_spared marks ws x
+module _ (marks : List Bool) (ws : List ℕ) (x : ℕ) (p : Option ℕ) (q : p ≡ position x (live_vertices (read limit ws))) where
+  pub spared-none : p ≡ None → true ≡ member_spared marks ws x
   unfolding spared
   spared-none h = rw (← q, h)
 
-  pub spared-at : (k : ℕ) → p ≡ At k → not (is_marked marks k) ≡ member_spared marks ws x
+  pub spared-at : (k : ℕ) → p ≡ Some k → not (is_marked marks k) ≡ member_spared marks ws x
   unfolding spared
   spared-at k h = rw (← q, h)
 
 -- the number at place i of ascending numbers
 spared-here : (marks : List Bool) (numbers : List ℕ) (x i : ℕ) → Ascending numbers → i < length numbers → get_or numbers i 0 ≡ x → is_unmarked marks i ≡ spared marks numbers x
 unfolding spared
-spared-here marks numbers x i asc h e = ap (λ (p : Found). not (mark_at marks p)) (position_here x numbers i asc h e)
+spared-here marks numbers x i asc h e = ap (λ (p : Option ℕ). not (mark_at marks p)) (position_here x numbers i asc h e)
 
 -- so the records that have no mark are those whose number has none
 module _ (p h : ℕ → Bool) (marks : List Bool) (ws : List ℕ) (f : Formed limit ws) where

@@ -1,16 +1,14 @@
 -- A table without the records that have a mark. Assumes nothing.
-use Rattle.std.specs.Prelude.{Bool, false, not, List, ℕ}
+use Rattle.std.specs.Prelude.{Bool, false, not, List, ℕ, Option, Some, None}
 use Rattle.lists.specs.Lists.{filter}
-use Rattle.layout.specs.declared.Found.{Found}
-use Rattle.layout.specs.declared.Found.TheVariants.{At, Nothing}
 use Rattle.layout.specs.Content.{Vertex, Hyperedge, Table, live_vertices, live_hyperedges, position}
 use Rattle.edits.specs.Removing.{sifted}
 use Rattle.marks.specs.Marks.{is_marked}
 
 -- a mark at the place that a search found
-abbrev pub mark_at : List Bool → Found → Bool
-mark_at marks (At k) = is_marked marks k
-mark_at marks Nothing = false
+abbrev pub mark_at : List Bool → Option ℕ → Bool
+mark_at marks (Some k) = is_marked marks k
+mark_at marks None = false
 
 -- the number has no mark: its record has none, or it is not among the numbers
 unfoldable pub spared : List Bool → List ℕ → ℕ → Bool

@@ -10,7 +10,7 @@ ghost use Rattle.withdraw_marked.specs.Sifting.{member_spared, members_spared, H
 
 use edits::records::{end_record, store};
 use edits::shift::clear_words;
-use layout::{Found, VertexIndex};
+use layout::VertexIndex;
 use sift_vertices::sift_vertices;
 
 // The vertex has no mark in its record's place, or is not live.
@@ -20,8 +20,8 @@ fn is_spared(old: &[u32], vertices: &[bool; 256], x: u32) -> bool
 {
     let f = find::find_vertex(old, VertexIndex(x));
     match f {
-        Found::Nothing => true,
-        Found::At(k) => !vertices[k],
+        None => true,
+        Some(k) => !vertices[k],
     }
 }
 
@@ -32,14 +32,12 @@ fn keep_spared(t: &mut [u32], old: &[u32], vertices: &[bool; 256], list: &[u32],
     ensures { (result ≡ length (members_spared vertices.now old.now list.now)) × (t.new ≡ paste t.old to (members_spared vertices.now old.now list.now) result) }
 {
     let mut c = 0;
-    let mut i = 0;
-    while i < list.len() {
+    for i in 0..list.len() {
         let x = list[i];
         if is_spared(old, vertices, x) {
             t[to + c] = x;
             c += 1;
         }
-        i += 1;
     }
     c
 }
@@ -81,10 +79,8 @@ fn sift_hyperedges(t: &mut [u32], old: &[u32], vertices: &[bool; 256], hyperedge
 {
     let m = layout::hyperedge_count(old);
     let mut k = 0;
-    let mut j = 0;
-    while j < m {
+    for j in 0..m {
         k = sift_record(t, old, vertices, hyperedges, j, k);
-        j += 1;
     }
     let a = layout::HYPEREDGES_AT + k * layout::RECORD_SIZE;
     clear_words(t, a, layout::SIZE - a);

@@ -1,4 +1,5 @@
 -- What carrying out a judged tray leaves is what the tray asks for. Assumes nothing.
+use Rattle.std.specs.Prelude.{Option, Some, None, Ok, Err}
 use mathlib.Core.Path.{◌≡◌, refl, sym, ap, ap₂, ◌∙◌, fun_ext}
 use mathlib.Core.Bool.{Bool, true, false, not}
 use mathlib.Core.List.{List, map}
@@ -6,9 +7,7 @@ use Prim.Native.Nat.{ℕ}
 use borrow.Author.Tests.{not-true, not-false}
 use Rattle.lists.specs.Lists.{any}
 use Rattle.lists.proofs.Cases.{on}
-use Rattle.layout.specs.declared.Found.{Found}
-use Rattle.layout.specs.declared.Found.TheVariants.{At, Nothing}
-use Rattle.layout.specs.declared.Answer.TheVariants.{Done, NotWellFormed, BadRecord}
+use Rattle.layout.specs.declared.Refusal.TheVariants.{NotWellFormed, BadRecord}
 use Rattle.layout.specs.Content.{Table, live_vertices, live_hyperedges, position}
 use Rattle.layout.specs.Layout.{limit, read, words}
 use Rattle.layout.specs.WellFormed.{well_formed}
@@ -35,9 +34,9 @@ spared-stays : (live : List ℕ) (names : ℕ → Removal → Bool) (rs : List R
 unfolding spared
 spared-stays live names rs n marks m x = ap not (go (position x live) refl)
   where
-    go : (p : Found) → position x live ≡ p → mark_at marks p ≡ any (names x) rs
-    go (At k) e = let f = position-found x live k e in m.each k f.0 ∙ rw (none-marked n k, f.1)
-    go Nothing e = sym (m.others x (missing-dead x live e))
+    go : (p : Option ℕ) → position x live ≡ p → mark_at marks p ≡ any (names x) rs
+    go (Some k) e = let f = position-found x live k e in m.each k f.0 ∙ rw (none-marked n k, f.1)
+    go None e = sym (m.others x (missing-dead x live e))
 
 unmarked-withdrawn : (ws : List ℕ) (tray : Tray) (t : Table) (rs : List Removal) → AllNamed t rs (opened ws) tray → unmarked_of tray.vertices tray.hyperedges t ≡ withdrawn rs t
 unfolding opened unmarked_of spared_of spared_vertex spared_hyperedge sifted withdrawn kept_vertex kept_hyperedge thinned stays_vertex stays_hyperedge
@@ -49,11 +48,11 @@ unmarked-withdrawn ws tray t rs a =
 -- ---- 1, 15, done
 
 module _ (ws : List ℕ) (rs : List Withdrawal) where
-  carried-formed : well_formed limit ws ≡ true → (p : Found) → first_passing (is_faulty (read limit ws)) rs ≡ p → carried_out (tray_of ws rs) ws ≡ tray_result rs ws (read limit ws)
+  carried-formed : well_formed limit ws ≡ true → (p : Option ℕ) → first_passing (is_faulty (read limit ws)) rs ≡ p → carried_out (tray_of ws rs) ws ≡ tray_result rs ws (read limit ws)
   unfolding carried_out tray_result opened
-  carried-formed f (At k) e = let q = tray-first ws f rs k e in rw (tray-tested ws rs, f, q.0, q.1, e)
-  carried-formed f Nothing e = let q = tray-named ws f rs e in
-      rw (tray-tested ws rs, f, q.faulty, e) (ap (λ (t : Table). result_of (Done 0) (words limit t)) (unmarked-withdrawn ws (tray_of ws rs) (read limit ws) (map asked rs) q))
+  carried-formed f (Some k) e = let q = tray-first ws f rs k e in rw (tray-tested ws rs, f, q.0, q.1, e)
+  carried-formed f None e = let q = tray-named ws f rs e in
+      rw (tray-tested ws rs, f, q.faulty, e) (ap (λ (t : Table). result_of (Ok 0) (words limit t)) (unmarked-withdrawn ws (tray_of ws rs) (read limit ws) (map asked rs) q))
 
   pub tray-result : carried_out (tray_of ws rs) ws ≡ on_formed ws ws (tray_result rs ws)
   unfolding carried_out on_formed
@@ -64,16 +63,16 @@ module _ (ws : List ℕ) (rs : List Withdrawal) where
 -- ---- for `search`: the tests of `carry_out`, in their order
 
 module _ (tray : Tray) (ws : List ℕ) where
-  pub carried-unformed : not tray.formed ≡ true → result_of NotWellFormed ws ≡ carried_out tray ws
+  pub carried-unformed : not tray.formed ≡ true → result_of (Err NotWellFormed) ws ≡ carried_out tray ws
   unfolding carried_out
   carried-unformed f = rw (not-true tray.formed f)
 
   module _ (f : not tray.formed ≡ false) where
-    pub carried-faulty : tray.faulty ≡ true → result_of (BadRecord tray.place) ws ≡ carried_out tray ws
+    pub carried-faulty : tray.faulty ≡ true → result_of (Err (BadRecord tray.place)) ws ≡ carried_out tray ws
     unfolding carried_out
     carried-faulty g = rw (not-false tray.formed f, g)
 
     pub carried-done : tray.faulty ≡ false → (exit : List ℕ) → exit ≡ words limit (unmarked_of tray.vertices tray.hyperedges (read limit ws))
-        → result_of (Done 0) exit ≡ carried_out tray ws
+        → result_of (Ok 0) exit ≡ carried_out tray ws
     unfolding carried_out
     carried-done g exit q = rw (not-false tray.formed f, g, q)

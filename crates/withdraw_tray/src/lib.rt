@@ -7,7 +7,7 @@ ghost use Rattle.trays.specs.Trays.{tray_result};
 ghost use Rattle.tray_marks.specs.Marking.{OpenFormed, tray_of};
 ghost use Rattle.withdraw_tray.specs.Carried.{carried_out};
 
-use layout::Answer;
+use layout::{Answer, Refusal};
 use tray_marks::Tray;
 use trays::Withdrawal;
 use withdraw_marked::withdraw_marked;
@@ -17,10 +17,8 @@ pub fn judge_records(t: &[u32], records: &[Withdrawal]) -> Tray
     ensures { result ≡ tray_of t.now records.now }
 {
     let mut tray = tray_marks::open_tray(t);
-    let mut i: usize = 0;
-    while i < records.len() {
+    for i in 0..records.len() {
         tray = tray_marks::judge_record(t, tray, i, records[i]);
-        i += 1;
     }
     tray
 }
@@ -31,15 +29,15 @@ pub fn carry_out(t: &mut [u32], tray: Tray) -> Answer
     ensures { result_of result t.new ≡ carried_out tray t.old }
 {
     if !tray.formed {
-        return Answer::NotWellFormed;
+        return Err(Refusal::NotWellFormed);
     }
     if tray.faulty {
-        return Answer::BadRecord(tray.place);
+        return Err(Refusal::BadRecord(tray.place));
     }
     let vertices = tray.vertices;
     let hyperedges = tray.hyperedges;
     withdraw_marked(t, &vertices, &hyperedges);
-    Answer::Done(0)
+    Ok(0)
 }
 
 // Withdraws every record of the tray, or none.

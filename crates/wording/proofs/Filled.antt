@@ -8,7 +8,6 @@ use native.Mathlib.Omega.{arith}
 use lib.Dec.{ltb, leb}
 use lib.ListN.{length, get_or-eq_default}
 use borrow.Author.Tests.{lt-ltb, le-ltb, le-leb, lt-leb, eq-eqb, ne_eqb}
-use Rattle.lists.specs.Tests.{◌and◌}
 use Rattle.lists.specs.Lists.{word_at}
 use Rattle.lists.proofs.Cases.{and_both, and-false-left, and-false-right}
 use Rattle.wording.specs.Texts.{decimal}

@@ -24,10 +24,8 @@ pub fn put_text(out: &mut [u8], at: usize, text: &[u8]) -> usize
     ensures { page out.new result ≡ write text.now (page out.old at) }
 {
     let mut next = at;
-    let mut i = 0;
-    while i < text.len() {
+    for i in 0..text.len() {
         next = put_byte(out, next, text[i]);
-        i += 1;
     }
     next
 }
@@ -87,10 +85,8 @@ pub fn put_form(out: &mut [u8], at: usize, form: &[u8], ns: &[u32], name: &[u8])
     ensures { page out.new result ≡ write (filled form.now ns.now name.now) (page out.old at) }
 {
     let mut next = at;
-    let mut i = 0;
-    while i < form.len() {
+    for i in 0..form.len() {
         next = put_meant(out, next, ns, name, form[i]);
-        i += 1;
     }
     next
 }

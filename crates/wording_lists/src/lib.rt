@@ -25,10 +25,8 @@ pub fn put_rows(out: &mut [u8], at: usize, form: &[u8], k: usize, ws: &[u32]) ->
 {
     let n = ws.len() / k;
     let mut next = at;
-    let mut i = 0;
-    while i < n {
+    for i in 0..n {
         next = put_row(out, next, form, k, ws, i);
-        i += 1;
     }
     next
 }
@@ -46,10 +44,8 @@ fn put_others(out: &mut [u8], at: usize, ns: &[u32]) -> usize
     ensures { page out.new result ≡ write (flat after_blank (drop 1 ns.now)) (page out.old at) }
 {
     let mut next = at;
-    let mut i = 1;
-    while i < ns.len() {
+    for i in 1..ns.len() {
         next = put_after(out, next, ns[i]);
-        i += 1;
     }
     next
 }
@@ -109,6 +105,7 @@ fn put_more_lists(
 {
     let mut next = at;
     let mut i = from;
+    // counts no index: it goes from the end of one list to the end of the next
     while i < ws.len() {
         let end = list_end(ws, i);
         next = put_line(out, next, opening, none, &ws[i + 1..end]);

@@ -14,7 +14,7 @@ ghost use Rattle.frames.specs.Pairs.{Pairs};
 use frame_lines::{number_sum, put_end, put_head, put_record};
 use frames::{HEAD_LENGTH, HYPEREDGE_LENGTH, MEMBER_LENGTH, VERTEX_LENGTH, byte_pairs};
 use hyperedge_frames::put_hyperedges;
-use layout::Answer;
+use layout::{Answer, Refusal};
 
 fn put_vertex(text: &mut [u8], at: usize, pairs: &[u8; 512], number: u32, weight: u32) -> usize
     requires pairs { Pairs byte_values pairs.now }
@@ -47,10 +47,8 @@ fn put_vertices(text: &mut [u8], at: usize, pairs: &[u8; 512], t: &[u32], n: usi
     ensures { Put at (n * vertex_length) (flat vertex_line (tab (vertex_at t.now) n)) text.old text.new result }
 {
     let mut next = at;
-    let mut i = 0;
-    while i < n {
+    for i in 0..n {
         next = put_vertex_at(text, next, pairs, t, i);
-        i += 1;
     }
     next
 }
@@ -70,10 +68,8 @@ fn hyperedges_length(t: &[u32], m: usize) -> usize
     ensures { (result ≡ length (flat hyperedge_line (tab (hyperedge_at limit t.now) m))) × (result ≤ m * hyperedge_length limit) }
 {
     let mut sum = 0;
-    let mut j = 0;
-    while j < m {
+    for j in 0..m {
         sum += hyperedge_length(t, j);
-        j += 1;
     }
     sum
 }
@@ -113,10 +109,10 @@ fn write_formed(t: &[u32], text: &mut [u8]) -> Answer
 {
     let k = text_length(t);
     if text.len() < k {
-        return Answer::NoRoom(k);
+        return Err(Refusal::NoRoom(k));
     }
     put_text(text, t);
-    Answer::Done(k)
+    Ok(k)
 }
 
 // Writes the table's frame text from the front of the lent bytes.
@@ -124,7 +120,7 @@ pub fn write_frames(t: &[u32], text: &mut [u8]) -> Answer
     ensures { result_of result text.new ≡ on_formed t.now text.old (write_result text.old) }
 {
     if !well_formed::well_formed(t) {
-        return Answer::NotWellFormed;
+        return Err(Refusal::NotWellFormed);
     }
     write_formed(t, text)
 }

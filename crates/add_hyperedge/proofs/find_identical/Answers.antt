@@ -1,6 +1,5 @@
 -- `add_hyperedge::find_identical` meets its contract: what is left of the search is the whole of it. Assumes nothing.
 use mathlib.Core.Path.{refl}
-use Prim.Native.Nat.{◌-◌}
 use Rattle.edits.specs.Results.{first_passing}
 use Rattle.edits.proofs.Passing.{passing-on, passing-here, passing-none}
 use borrow.Author.Rules.{rules}

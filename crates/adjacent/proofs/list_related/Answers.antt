@@ -1,14 +1,14 @@
 -- `adjacent::list_related` meets its contract. Assumes nothing.
 use Rattle.lookups.specs.Lookups.{related}
 use Rattle.lookups.specs.Results.{related_result}
-use Rattle.lookups.proofs.Found.{not_found, found-same}
+use Rattle.layout.proofs.Answers.{asked-missing, asked-found}
 use Rattle.lookups.proofs.Marking.{marks-listed}
 use Rattle.adjacent.proofs.list_related.Goals as goal
 
-pub returns-in-Nothing : goal.returns-in-Nothing
+pub returns-in_err-ok_or : goal.returns-in_err-ok_or
 unfolding related_result
-returns-in-Nothing c = search not_found
+returns-in_err-ok_or c = search (asked-missing, c.in_err-ok_or.was)
 
-pub returns-in-At : goal.returns-in-At
+pub returns : goal.returns
 unfolding related_result related
-returns-in-At c = search (found-same, marks-listed)
+returns c = search (asked-found, marks-listed, c.in_ok-ok_or.was)

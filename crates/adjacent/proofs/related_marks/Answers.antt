@@ -1,6 +1,5 @@
 -- `adjacent::related_marks` meets its contract. Assumes nothing.
 use mathlib.Core.Path.{◌∙◌}
-use Prim.Native.Nat.{◌-◌}
 use native.Mathlib.Omega.{arith}
 use Rattle.layout.specs.Layout.{limit}
 use Rattle.lookups.specs.Lookups.{is_related}

@@ -1,5 +1,4 @@
 -- `choices::choices` meets its contract. Assumes nothing.
-use Prim.Native.Nat.{◌-◌}
 use Rattle.distance.proofs.Lists.{listed-none}
 use Rattle.paths.proofs.Choosing.{choosing-none, chosen-end}
 use borrow.Author.Rules.{rules}

@@ -1,5 +1,4 @@
 -- `choices::weights` meets its contract. Assumes nothing.
-use Prim.Native.Nat.{◌-◌}
 use Rattle.paths.proofs.Values.{weights-none, weights-more, weights-end}
 use borrow.Author.Rules.{rules}
 use Rattle.choices.proofs.weights.Goals as goal

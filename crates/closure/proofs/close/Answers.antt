@@ -4,9 +4,8 @@ use Rattle.closure.proofs.Closing.{closure-first, closure-more}
 use Rattle.closure.specs.State.{Closure}
 use native.Mathlib.Omega.{arith}
 use mathlib.Core.Path.{subst}
-use Prim.Native.Nat.{ℕ, ◌-◌}
+use Prim.Native.Nat.{ℕ}
 use native.Mathlib.Nat.{le_antisymm}
-use borrow.Author.Count.{falls}
 use Rattle.closure.proofs.close.Goals as goal
 
 pub loop-x-init : goal.loop-x-init
@@ -17,12 +16,6 @@ marks_from-requires c = (c.requires.0, c.loop-x-test.true)
 
 pub copy_row-requires : goal.copy_row-requires
 copy_row-requires c = (c.requires.0, omega (arith, c.requires.0), c.loop-x.invariant.1.long)
-
-pub overflow_add-x : goal.overflow_add-x
-overflow_add-x c = omega arith
-
-pub loop-x-smaller : goal.loop-x-smaller
-loop-x-smaller c = falls _ _ c.loop-x-test.true
 
 pub loop-x-preserved : goal.loop-x-preserved
 loop-x-preserved c = (omega arith, closure-more c.requires.0 c.loop-x.invariant.1 c.marks_from.ensures c.copy_row.ensures)

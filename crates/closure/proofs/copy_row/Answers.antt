@@ -3,7 +3,7 @@ use Rattle.closure.proofs.Closing.{copied-first, copied_more}
 use Rattle.closure.specs.State.{Copied}
 use native.Mathlib.Omega.{arith}
 use mathlib.Core.Path.{subst}
-use Prim.Native.Nat.{ℕ, ◌-◌}
+use Prim.Native.Nat.{ℕ}
 use native.Mathlib.Nat.{le_antisymm}
 use Rattle.closure.proofs.copy_row.Goals as goal
 
@@ -21,12 +21,6 @@ overflow_add-c c = omega arith
 
 pub bounds-c-x : goal.bounds-c-x
 bounds-c-x c = omega arith
-
-pub overflow_add-v : goal.overflow_add-v
-overflow_add-v c = omega arith
-
-pub loop-v-smaller : goal.loop-v-smaller
-loop-v-smaller c = omega arith
 
 pub loop-v-preserved : goal.loop-v-preserved
 loop-v-preserved c = (omega arith, copied_more c.loop-v.invariant.1 (omega arith) (omega arith))

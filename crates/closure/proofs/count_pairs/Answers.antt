@@ -1,6 +1,6 @@
 -- `closure::count_pairs` meets its contract. Assumes nothing.
 use mathlib.Core.Path.{sym, ap, ◌∙◌}
-use Prim.Native.Nat.{◌≤◌, ◌-◌}
+use Prim.Native.Nat.{◌≤◌}
 use native.Mathlib.Nat.{le_antisymm}
 use native.Mathlib.Omega.{arith}
 use Rattle.lists.proofs.Count.{count-le}
@@ -15,12 +15,6 @@ loop-x-init c = (omega arith, sym (pairs-none _ _), omega arith)
 
 pub overflow_add-c : goal.overflow_add-c
 overflow_add-c c = let few : c.count_row-c.result ≤ 256 = omega (arith, c.count_row-c.ensures, count-le (apart (matrix c.args.m.now) c.loop-x.x) c.args.n, c.requires) in omega (arith, few)
-
-pub overflow_add-x : goal.overflow_add-x
-overflow_add-x c = omega arith
-
-pub loop-x-smaller : goal.loop-x-smaller
-loop-x-smaller c = omega arith
 
 pub loop-x-preserved : goal.loop-x-preserved
 loop-x-preserved c = let few : c.count_row-c.result ≤ 256 = omega (arith, c.count_row-c.ensures, count-le (apart (matrix c.args.m.now) c.loop-x.x) c.args.n, c.requires) in (omega arith, pairs-more (matrix c.args.m.now) c.args.n c.loop-x.x c.loop-x.c c.count_row-c.result c.loop-x.invariant.1 c.count_row-c.ensures, omega (arith, few))

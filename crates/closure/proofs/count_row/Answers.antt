@@ -1,6 +1,5 @@
 -- `closure::count_row` meets its contract. Assumes nothing.
 use mathlib.Core.Path.{refl, sym, ◌∙◌}
-use Prim.Native.Nat.{◌-◌}
 use native.Mathlib.Omega.{arith}
 use Rattle.lists.proofs.Count.{count-in, count-out, count-end}
 use Rattle.graph.specs.Reach.{matrix}

@@ -1,5 +1,5 @@
 -- `closure::write_pairs` meets its contract. Assumes nothing.
-use Prim.Native.Nat.{◌≤◌, ◌-◌}
+use Prim.Native.Nat.{◌≤◌}
 use native.Mathlib.Omega.{arith}
 use mathlib.Core.Path.{◌≡◌}
 use lib.ListN.{length}
@@ -32,12 +32,6 @@ overflow_add-at c = let long : length c.loop-x.out ≡ length c.args.out.now = b
   c.write_row-at.ensures.words,
   c.well_formed,
 )
-
-pub overflow_add-x : goal.overflow_add-x
-overflow_add-x c = omega arith
-
-pub loop-x-smaller : goal.loop-x-smaller
-loop-x-smaller c = omega arith
 
 pub loop-x-preserved : goal.loop-x-preserved
 loop-x-preserved c = (

@@ -1,5 +1,5 @@
 -- `closure::write_pairs` meets its contract. Assumes nothing.
-use Prim.Native.Nat.{◌≤◌, ◌-◌}
+use Prim.Native.Nat.{◌≤◌}
 use Rattle.layout.specs.Layout.{limit, read}
 use Rattle.steps.specs.Matrices.{number_of}
 use Rattle.graph.specs.Reach.{matrix}
@@ -9,6 +9,3 @@ use Rattle.closure.proofs.write_pairs.Given as goal
 
 abbrev pub invariant-loop-x : goal.invariant-loop-x
 invariant-loop-x l = (l.x ≤ l.n) × Blocks (row_words (number_of (read limit l.t)) (matrix l.m) l.n) l.initial.out l.x l.at l.out
-
-abbrev pub decreases-loop-x : goal.decreases-loop-x
-decreases-loop-x l = l.n - l.x

@@ -1,6 +1,6 @@
 -- `closure::write_row` meets its contract. Assumes nothing.
 use mathlib.Core.Path.{sym, ◌∙◌}
-use Prim.Native.Nat.{◌+◌, ◌≤◌, ◌-◌}
+use Prim.Native.Nat.{◌+◌, ◌≤◌}
 use native.Mathlib.Omega.{arith}
 use lib.ListN.{length, length-set}
 use Rattle.layout.specs.Layout.{limit, read}
@@ -40,12 +40,6 @@ bounds-part-i-then-is_pair c = let room : c.loop-y.i + 2 ≤ length c.loop-y.par
 pub overflow_add-i : goal.overflow_add-i
 overflow_add-i c = let room : c.loop-y.i + 2 ≤ length c.loop-y.part = row_room c.loop-y.invariant.1 _ c.loop-y-test.true (sym c.is_pair.ensures ∙ c.if-is_pair.true)
     (row_fits (number_of (read limit c.args.t.now)) (matrix c.args.m.now) c.args.n c.args.x c.args.part.now c.requires.n_value.2) in omega (arith, room)
-
-pub overflow_add-y : goal.overflow_add-y
-overflow_add-y c = omega arith
-
-pub loop-y-smaller : goal.loop-y-smaller
-loop-y-smaller c = omega arith
 
 pub loop-y-preserved : goal.loop-y-preserved
 loop-y-preserved c =

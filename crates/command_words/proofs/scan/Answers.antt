@@ -1,5 +1,4 @@
 -- `command_words::scan` meets its contract: the numbers that were seen, and the words that are left. Assumes nothing.
-use Prim.Native.Nat.{◌-◌}
 use Rattle.command_words.proofs.Scans.{reading-first, reading-length, reading-end, end_fits, reading-fault, reading-more}
 use Rattle.command_words.proofs.scan.Goals as goal
 

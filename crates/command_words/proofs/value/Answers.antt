@@ -1,5 +1,4 @@
 -- `command_words::value` meets its contract: the worth of what is left is that of the word. Assumes nothing.
-use Prim.Native.Nat.{◌-◌}
 use Rattle.command_words.proofs.Values.{value_none, value-first, value_low, value-high, value-over, value-more, value-end}
 use borrow.Author.Rules.{rules}
 use Rattle.command_words.proofs.value.Goals as goal

@@ -1,6 +1,5 @@
 -- `command_words::word_end` meets its contract: the end of the word that is left is the end of the word. Assumes nothing.
 use mathlib.Core.Path.{refl}
-use Prim.Native.Nat.{◌-◌}
 use Rattle.command_words.proofs.Values.{word-here, word_on_lem, word-last}
 use borrow.Author.Rules.{rules}
 use Rattle.command_words.proofs.word_end.Goals as goal

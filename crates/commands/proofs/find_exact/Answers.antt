@@ -1,6 +1,5 @@
 -- `commands::find_exact` meets its contract: what is left of the names says of all. Assumes nothing.
 use Rattle.commands.proofs.Names.{names-first, names-none, exact_none, exact-here, exact-on}
-use Prim.Native.Nat.{◌-◌}
 use Rattle.lists.proofs.Cases.{not_none}
 use borrow.Author.Rules.{rules}
 use Rattle.commands.proofs.find_exact.Goals as goal

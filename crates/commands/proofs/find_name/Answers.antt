@@ -1,6 +1,5 @@
 -- `commands::find_name` meets its contract: what is left of the names says of all. Assumes nothing.
 use Rattle.commands.proofs.Names.{names-first, names-none, name-here, name-on}
-use Prim.Native.Nat.{◌-◌}
 use Rattle.commands.specs.Commands.{named}
 use borrow.Author.Rules.{rules}
 use Rattle.commands.proofs.find_name.Goals as goal

@@ -1,5 +1,4 @@
 -- `component_listings::all_marked` meets its contract. Assumes nothing.
-use Prim.Native.Nat.{◌-◌}
 use native.Mathlib.Omega.{arith}
 use Rattle.structural.proofs.ComponentsAnswers.{marked-none, marked-no, marked-on, marked-end}
 use Rattle.component_listings.proofs.all_marked.Goals as goal
@@ -12,12 +11,6 @@ bounds-marks-v c = omega arith
 
 pub returns-then-marks-v-ne1 : goal.returns-then-marks-v-ne1
 returns-then-marks-v-ne1 c = search marked-no
-
-pub overflow_add-v : goal.overflow_add-v
-overflow_add-v c = omega arith
-
-pub loop-v-smaller : goal.loop-v-smaller
-loop-v-smaller c = omega arith
 
 pub loop-v-preserved : goal.loop-v-preserved
 loop-v-preserved c = (omega arith, search marked-on)

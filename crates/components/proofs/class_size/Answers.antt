@@ -1,6 +1,5 @@
 -- `components::class_size` meets its contract. Assumes nothing.
 use mathlib.Core.Path.{refl}
-use Prim.Native.Nat.{◌-◌}
 use native.Mathlib.Omega.{arith}
 use Rattle.lists.proofs.Count.{count-in, count-out, count-end}
 use Rattle.components.specs.Parts.{in_class}

@@ -3,7 +3,7 @@ use Rattle.components.specs.Parts.{flagged}
 use Rattle.lists.proofs.Store.{store-more, store-rest}
 use native.Mathlib.Omega.{arith}
 use mathlib.Core.Path.{◌≡◌, refl, ap, ◌∙◌}
-use Prim.Native.Nat.{ℕ, ◌-◌}
+use Prim.Native.Nat.{ℕ}
 use mathlib.Core.Bool.{cond}
 use native.Mathlib.Nat.{not-suc-le-zero}
 use lib.ListN.{get_or, length-set}
@@ -29,12 +29,6 @@ offset_bounds-ids-v-in-loop-v c = omega arith
 
 pub bounds-ids-v-in-loop-v : goal.bounds-ids-v-in-loop-v
 bounds-ids-v-in-loop-v c = omega arith
-
-pub overflow_add-v : goal.overflow_add-v
-overflow_add-v c = omega arith
-
-pub loop-v-smaller : goal.loop-v-smaller
-loop-v-smaller c = omega arith
 
 pub loop-v-preserved : goal.loop-v-preserved
 loop-v-preserved c = (

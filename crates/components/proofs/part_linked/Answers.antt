@@ -1,5 +1,4 @@
 -- `components::part_linked` meets its contract. Assumes nothing.
-use Prim.Native.Nat.{◌-◌}
 use native.Mathlib.Omega.{arith}
 use Rattle.graph.specs.Reach.{matrix}
 use Rattle.components.proofs.Linked.{linked-first, linked-room, linked-more, linked-end}
@@ -11,12 +10,6 @@ loop-r-init c = (omega arith, linked-first (matrix c.args.adj.now) c.args.n c.re
 pub try_root-c-requires : goal.try_root-c-requires
 try_root-c-requires c =
     (c.requires.0, c.loop-r-test.true, linked-room (matrix c.args.adj.now) c.args.n c.requires.1 c.loop-r.invariant.1 c.requires.0 c.loop-r-test.true, c.loop-r.invariant.1.parted.wide)
-
-pub overflow_add-r : goal.overflow_add-r
-overflow_add-r c = omega arith
-
-pub loop-r-smaller : goal.loop-r-smaller
-loop-r-smaller c = omega arith
 
 pub loop-r-preserved : goal.loop-r-preserved
 loop-r-preserved c =

@@ -1,5 +1,5 @@
 -- `components::write_classes` meets its contract. Assumes nothing.
-use Prim.Native.Nat.{◌≤◌, ◌-◌}
+use Prim.Native.Nat.{◌≤◌}
 use native.Mathlib.Omega.{arith}
 use mathlib.Core.Path.{◌≡◌}
 use lib.ListN.{length}
@@ -37,9 +37,6 @@ overflow_add-at c = let long : length c.loop-k.out ≡ length c.args.out.now = b
   (class-as (number_of (read limit c.args.t.now)) c.args.ids.now c.args.n c.loop-k.k c.write_class-at.ensures).words,
   c.well_formed,
 )
-
-pub loop-k-smaller : goal.loop-k-smaller
-loop-k-smaller c = omega arith
 
 pub loop-k-preserved : goal.loop-k-preserved
 loop-k-preserved c = (

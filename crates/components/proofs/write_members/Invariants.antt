@@ -1,5 +1,5 @@
 -- `components::write_members` meets its contract: `Written` at each record. Assumes nothing.
-use Prim.Native.Nat.{◌≤◌, ◌-◌}
+use Prim.Native.Nat.{◌≤◌}
 use Rattle.steps.specs.Matrices.{number_of}
 use Rattle.layout.specs.Layout.{limit, read}
 use Rattle.components.specs.Parts.{in_class}
@@ -8,6 +8,3 @@ use Rattle.components.proofs.write_members.Given as goal
 
 abbrev pub invariant-loop-v : goal.invariant-loop-v
 invariant-loop-v l = (l.v ≤ l.n) × Written (in_class l.ids l.k) (number_of (read limit l.t)) l.initial.part l.v l.c l.part
-
-abbrev pub decreases-loop-v : goal.decreases-loop-v
-decreases-loop-v l = l.n - l.v

@@ -1,5 +1,4 @@
 -- `cut::find_places` meets its contract: the places of the first i members. Assumes nothing.
-use Prim.Native.Nat.{◌-◌}
 use Rattle.cut.proofs.Gathering.{record-fits, members-short, place_in, placing-none, placing-more, placing-end}
 use Rattle.cut.proofs.find_places.Goals as goal
 

@@ -1,6 +1,4 @@
 -- `cut::find_places` meets its contract: the places of the first i members. Assumes nothing.
-use Prim.Native.Nat.{◌-◌}
-use lib.ListN.{length}
 use Rattle.layout.specs.Content.{live_vertices}
 use Rattle.layout.specs.Layout.{limit, read}
 use Rattle.cut.proofs.Gathering.{Placing}
@@ -8,6 +6,3 @@ use Rattle.cut.proofs.find_places.Given as goal
 
 abbrev pub invariant-loop-i : goal.invariant-loop-i
 invariant-loop-i l = Placing (live_vertices (read limit l.t)) l.ms l.i l.places
-
-abbrev pub decreases-loop-i : goal.decreases-loop-i
-decreases-loop-i l = length l.ms - l.i

@@ -1,5 +1,4 @@
 -- `cut::gather` meets its contract: the matrix after the first j hyperedges. Assumes nothing.
-use Prim.Native.Nat.{◌-◌}
 use Rattle.cut.proofs.Gathering.{gathered-end}
 use borrow.Author.Rules.{rules}
 use Rattle.cut.proofs.gather.Goals as goal

@@ -1,5 +1,4 @@
 -- `cut::mark_pairs` meets its contract: the first i places with each. Assumes nothing.
-use Prim.Native.Nat.{◌-◌}
 use native.Mathlib.Omega.{arith}
 use Rattle.cut.proofs.Gathering.{places-at, pairs-none, pairs-more, pairs_end}
 use borrow.Author.Rules.{rules}

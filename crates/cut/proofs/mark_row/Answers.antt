@@ -1,5 +1,4 @@
 -- `cut::mark_row` meets its contract: the first i places. Assumes nothing.
-use Prim.Native.Nat.{◌-◌}
 use native.Mathlib.Omega.{arith}
 use Rattle.cut.proofs.Gathering.{places-at, row-none, row_more, row-end}
 use borrow.Author.Rules.{rules}

@@ -1,6 +1,5 @@
 -- `cut_vertices::all_kept` meets its contract: all before the place. Assumes nothing.
 use mathlib.Core.Path.{refl}
-use Prim.Native.Nat.{◌-◌}
 use Rattle.lists.specs.Tests.{every}
 use Rattle.lists.proofs.Every.{every-on, every-no, every-end}
 use borrow.Author.Rules.{rules}

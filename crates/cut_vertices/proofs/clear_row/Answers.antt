@@ -1,5 +1,4 @@
 -- `cut_vertices::clear_row` meets its contract: the row up to the place. Assumes nothing.
-use Prim.Native.Nat.{◌-◌}
 use Rattle.cut.proofs.Searching.{cleared-none, cleared_more, cleared-end}
 use borrow.Author.Rules.{rules}
 use Rattle.cut_vertices.proofs.clear_row.Goals as goal

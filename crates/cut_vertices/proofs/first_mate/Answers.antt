@@ -1,5 +1,4 @@
 -- `cut_vertices::first_mate` meets its contract: none before the place. Assumes nothing.
-use Prim.Native.Nat.{◌-◌}
 use Rattle.cut.proofs.Searching.{unmet-none, unmet-more, unmet-found, unmet-end}
 use Rattle.cut_vertices.proofs.first_mate.Goals as goal
 

@@ -1,4 +1,4 @@
--- `cut_vertices::is_cut_lem` meets its contract. Assumes nothing.
+-- `cut_vertices::is_cut` meets its contract. Assumes nothing.
 use Rattle.cut.proofs.Parting.{cut-none}
 use borrow.Author.Rules.{rules}
 use Rattle.cut_vertices.proofs.is_cut.Goals as goal

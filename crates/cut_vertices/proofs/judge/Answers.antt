@@ -1,6 +1,5 @@
 -- `cut_vertices::judge` meets its contract: the records before v are judged, and the copy is whole. Assumes nothing.
 use mathlib.Core.Path.{refl}
-use Prim.Native.Nat.{◌-◌}
 use Rattle.cut.proofs.Searching.{judged-none, judged-more, judged-end}
 use borrow.Author.Rules.{rules}
 use Rattle.cut_vertices.proofs.judge.Goals as goal

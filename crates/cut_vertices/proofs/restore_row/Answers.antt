@@ -1,5 +1,4 @@
 -- `cut_vertices::restore_row` meets its contract: the row up to the place. Assumes nothing.
-use Prim.Native.Nat.{◌-◌}
 use Rattle.cut.proofs.Searching.{restored-none, restored-more, restored-end}
 use Rattle.cut_vertices.proofs.restore_row.Goals as goal
 

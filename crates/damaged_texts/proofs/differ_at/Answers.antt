@@ -1,5 +1,4 @@
 -- `damaged_texts::differ_at` meets its contract. Assumes nothing.
-use Prim.Native.Nat.{◌-◌}
 use borrow.Author.Rules.{rules}
 use Rattle.damaged_texts.proofs.differ_at.Goals as goal
 

@@ -1,9 +1,6 @@
 -- `damaged_texts::take_out` is safe and ends. Assumes nothing.
-use Prim.Native.Nat.{◌≤◌, ◌-◌}
+use Prim.Native.Nat.{◌≤◌}
 use Rattle.damaged_texts.proofs.take_out.Given as goal
 
 abbrev pub invariant-loop-at : goal.invariant-loop-at
 invariant-loop-at l = l.at ≤ 113
-
-abbrev pub decreases-loop-at : goal.decreases-loop-at
-decreases-loop-at l = 113 - l.at

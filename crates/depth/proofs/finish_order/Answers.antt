@@ -1,6 +1,5 @@
 -- `depth::finish_order` meets its contract. Assumes nothing.
 use Rattle.depth.proofs.Swept.{swept-first, swept-more, swept-end}
-use native.Mathlib.Omega.{arith}
 use Rattle.depth.proofs.finish_order.Goals as goal
 
 pub loop-x-init : goal.loop-x-init
@@ -8,12 +7,6 @@ loop-x-init c = swept-first c.requires
 
 pub start_at-t-requires : goal.start_at-t-requires
 start_at-t-requires c = (c.loop-x-test.true, c.loop-x.invariant.fit)
-
-pub overflow_add-x : goal.overflow_add-x
-overflow_add-x c = omega arith
-
-pub loop-x-smaller : goal.loop-x-smaller
-loop-x-smaller c = omega arith
 
 pub loop-x-preserved : goal.loop-x-preserved
 loop-x-preserved c = swept-more c.loop-x.invariant c.loop-x-test.true c.start_at-t.ensures

@@ -1,11 +1,7 @@
 -- `depth::finish_order` meets its contract. Assumes nothing.
 use Rattle.depth.specs.Swept.{Swept}
 use Rattle.graph.specs.Reach.{matrix}
-use Prim.Native.Nat.{◌-◌}
 use Rattle.depth.proofs.finish_order.Given as goal
 
 abbrev pub invariant-loop-x : goal.invariant-loop-x
 invariant-loop-x l = Swept (matrix l.adj) l.n l.marks l.out l.t l.x
-
-abbrev pub decreases-loop-x : goal.decreases-loop-x
-decreases-loop-x l = l.n - l.x

@@ -1,6 +1,5 @@
 -- `desk_looks::mark_state` meets its contract. Assumes nothing.
 use Rattle.lookups.specs.State.{no_marks}
-use Prim.Native.Nat.{◌-◌}
 use Rattle.desk_looks.proofs.Marking.{where-none, state-more, where-end}
 use borrow.Author.Rules.{rules}
 use Rattle.desk_looks.proofs.mark_state.Goals as goal

@@ -1,10 +1,7 @@
 -- `desk_looks::mark_state` meets its contract. Assumes nothing.
-use Prim.Native.Nat.{◌≤◌, ◌-◌}
+use Prim.Native.Nat.{◌≤◌}
 use Rattle.desk_looks.specs.Held.{MarkedWhere, record_in}
 use Rattle.desk_looks.proofs.mark_state.Given as goal
 
 abbrev pub invariant-loop-k : goal.invariant-loop-k
 invariant-loop-k l = (l.k ≤ l.n) × MarkedWhere (record_in l.s l.state) l.k l.marks
-
-abbrev pub decreases-loop-k : goal.decreases-loop-k
-decreases-loop-k l = l.n - l.k

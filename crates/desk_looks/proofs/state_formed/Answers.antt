@@ -2,15 +2,15 @@
 use Rattle.desk.specs.Releases.{state_result}
 use Rattle.desk_looks.proofs.Shown.{state-told}
 use Rattle.desk_fits.proofs.Looked.{state-within}
-use Rattle.lookups.proofs.Found.{not_found}
+use Rattle.layout.proofs.Answers.{asked-missing, taken}
 use Rattle.desk_looks.proofs.state_formed.Goals as goal
 
 pub state_at-requires : goal.state_at-requires
-state_at-requires c = search state-within
+state_at-requires c = search (state-within, taken _ _ _ c.ok_or.ensures.value _ c.in_ok-i.was)
 
-pub returns-in-Nothing : goal.returns-in-Nothing
+pub returns-in_err-i : goal.returns-in_err-i
 unfolding state_result
-returns-in-Nothing c = search not_found
+returns-in_err-i c = search (asked-missing, c.in_err-i.was)
 
-pub returns-in-At : goal.returns-in-At
-returns-in-At c = search state-told
+pub returns : goal.returns
+returns c = search (state-told, taken _ _ _ c.ok_or.ensures.value _ c.in_ok-i.was)

@@ -1,5 +1,4 @@
 -- `desk_numbers::judge_numbers` meets its contract. Assumes nothing.
-use Prim.Native.Nat.{◌-◌}
 use Rattle.desk_numbers.proofs.Trays.{judged-first, judged-open, judged-more, judged-all}
 use borrow.Author.Rules.{rules}
 use Rattle.desk_numbers.proofs.judge_numbers.Goals as goal

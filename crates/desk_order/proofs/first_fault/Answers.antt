@@ -1,5 +1,4 @@
 -- `desk_order::first_fault` meets its contract. Assumes nothing.
-use Prim.Native.Nat.{◌-◌}
 use Rattle.lookups.specs.State.{no_marks}
 use Rattle.desk_order.proofs.Faults.{judging-first, judging-on, judging-here, judging-none}
 use Rattle.desk_order.proofs.first_fault.Goals as goal

@@ -1,12 +1,7 @@
 -- `desk_order::first_fault` meets its contract. Assumes nothing.
-use Prim.Native.Nat.{◌-◌}
-use lib.ListN.{length}
 use Rattle.layout.specs.Layout.{limit, read}
 use Rattle.desk_order.proofs.Faults.{Judging}
 use Rattle.desk_order.proofs.first_fault.Given as goal
 
 abbrev pub invariant-loop-i : goal.invariant-loop-i
 invariant-loop-i l = Judging (read limit l.t) l.order l.i l.placed
-
-abbrev pub decreases-loop-i : goal.decreases-loop-i
-decreases-loop-i l = length l.order - l.i

@@ -6,8 +6,8 @@ use Rattle.desk_order.proofs.is_at_fault.Goals as goal
 pub place-requires : goal.place-requires
 place-requires c = (search place-within, search rules)
 
-pub returns-in-Nothing : goal.returns-in-Nothing
-returns-in-Nothing c = search not_live
+pub returns-in_default : goal.returns-in_default
+returns-in_default c = search not_live
 
-pub returns-in-At : goal.returns-in-At
-returns-in-At c = search entry-judged
+pub returns : goal.returns
+returns c = search entry-judged

@@ -1,5 +1,4 @@
 -- `desk_order::meets` meets its contract. Assumes nothing.
-use Prim.Native.Nat.{◌-◌}
 use Rattle.desk_order.proofs.Placing.{meets-first, meets-more, meets-end}
 use borrow.Author.Rules.{rules}
 use Rattle.desk_order.proofs.meets.Goals as goal

@@ -1,5 +1,4 @@
 -- `desk_releasable::hold_row` meets its contract. Assumes nothing.
-use Prim.Native.Nat.{◌-◌}
 use Rattle.desk_looks.proofs.Marking.{joining-none, row_more, joining-end}
 use borrow.Author.Rules.{rules}
 use Rattle.desk_releasable.proofs.hold_row.Goals as goal

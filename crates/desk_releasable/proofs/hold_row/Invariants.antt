@@ -1,6 +1,6 @@
 -- `desk_releasable::hold_row` meets its contract. Assumes nothing.
 use mathlib.Core.Path.{◌≡◌}
-use Prim.Native.Nat.{◌≤◌, ◌-◌}
+use Prim.Native.Nat.{◌≤◌}
 use lib.ListN.{length}
 use Rattle.layout.specs.Layout.{vertex_limit}
 use Rattle.graph.specs.Reach.{matrix}
@@ -9,6 +9,3 @@ use Rattle.desk_releasable.proofs.hold_row.Given as goal
 
 abbrev pub invariant-loop-k : goal.invariant-loop-k
 invariant-loop-k l = (l.k ≤ vertex_limit) × (length l.held ≡ vertex_limit) × Joining (matrix l.m l.u) l.k l.initial.held l.held
-
-abbrev pub decreases-loop-k : goal.decreases-loop-k
-decreases-loop-k l = vertex_limit - l.k

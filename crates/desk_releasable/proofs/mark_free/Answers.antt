@@ -1,6 +1,5 @@
 -- `desk_releasable::mark_free` meets its contract. Assumes nothing.
 use Rattle.lookups.specs.State.{no_marks}
-use Prim.Native.Nat.{◌-◌}
 use Rattle.desk_looks.proofs.Marking.{where-none, free_more, where-end}
 use borrow.Author.Rules.{rules}
 use Rattle.desk_releasable.proofs.mark_free.Goals as goal

@@ -1,10 +1,7 @@
 -- `desk_releasable::mark_free` meets its contract. Assumes nothing.
-use Prim.Native.Nat.{◌≤◌, ◌-◌}
+use Prim.Native.Nat.{◌≤◌}
 use Rattle.desk_looks.specs.Held.{MarkedWhere, record_free}
 use Rattle.desk_releasable.proofs.mark_free.Given as goal
 
 abbrev pub invariant-loop-k : goal.invariant-loop-k
 invariant-loop-k l = (l.k ≤ l.n) × MarkedWhere (record_free l.s l.held) l.k l.marks
-
-abbrev pub decreases-loop-k : goal.decreases-loop-k
-decreases-loop-k l = l.n - l.k

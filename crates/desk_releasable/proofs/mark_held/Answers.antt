@@ -1,5 +1,4 @@
 -- `desk_releasable::mark_held` meets its contract. Assumes nothing.
-use Prim.Native.Nat.{◌-◌}
 use Rattle.lookups.specs.State.{no_marks}
 use Rattle.desk_looks.proofs.Marking.{held_none, held-end}
 use borrow.Author.Rules.{rules}

@@ -2,11 +2,11 @@
 use Rattle.desk_sheets.proofs.Told.{order-refused, order-plain, order-worded}
 use Rattle.desk_sheets.proofs.judge_order.Goals as goal
 
-pub returns-then-r-ne0 : goal.returns-then-r-ne0
-returns-then-r-ne0 c = search order-refused
+pub returns-in_err-desk_accept_order : goal.returns-in_err-desk_accept_order
+returns-in_err-desk_accept_order c = search (order-refused, c.in_err-desk_accept_order.was)
 
 pub returns-then-plain : goal.returns-then-plain
-returns-then-plain c = search order-plain
+returns-then-plain c = search (order-plain, c.in_ok-desk_accept_order.was)
 
 pub returns : goal.returns
-returns c = search order-worded
+returns c = search (order-worded, c.in_ok-desk_accept_order.was)

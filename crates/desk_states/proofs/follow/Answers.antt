@@ -1,5 +1,4 @@
 -- `desk_states::follow` meets its contract. Assumes nothing.
-use Prim.Native.Nat.{◌-◌}
 use Rattle.desk_states.proofs.Turns.{moved_none, moved-again, moved-done}
 use borrow.Author.Rules.{rules}
 use Rattle.desk_states.proofs.follow.Goals as goal

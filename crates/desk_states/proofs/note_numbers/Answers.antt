@@ -1,5 +1,4 @@
 -- `desk_states::note_numbers` meets its contract. Assumes nothing.
-use Prim.Native.Nat.{◌-◌}
 use Rattle.desk_states.proofs.Turns.{noted-none, noted_more, noted-all}
 use borrow.Author.Rules.{rules}
 use Rattle.desk_states.proofs.note_numbers.Goals as goal

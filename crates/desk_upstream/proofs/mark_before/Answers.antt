@@ -1,6 +1,7 @@
 -- `desk_upstream::mark_before` meets its contract. Assumes nothing.
+use lib.ListN.{length}
 use mathlib.Core.Path.{◌∙◌}
-use Prim.Native.Nat.{◌-◌}
+use Prim.Native.Nat.{◌+◌, ◌<◌}
 use native.Mathlib.Omega.{arith}
 use Rattle.layout.specs.Layout.{limit}
 use Rattle.layout.specs.Inner.{step_at}
@@ -16,7 +17,7 @@ loop-i-init c = (search rules, marking-none _ _ _ _)
 
 pub loop-i-preserved : goal.loop-i-preserved
 loop-i-preserved c =
-    let h = c.loop-i-test.true in let e = c.ends_at-ends.ensures in let p = step_at c.args.list.now c.loop-i.i in (
+    let h : c.loop-i.i + 1 < length c.args.list.now = omega arith in let e = c.ends_at-ends.ensures in let p = step_at c.args.list.now c.loop-i.i in (
       omega arith,
       elim c.if-ends-v.branch [
         | then-ends-v w ↦ marking-more c.loop-i.invariant.1 (steps-more _ _ h)
@@ -26,4 +27,4 @@ loop-i-preserved c =
     )
 
 pub returns : goal.returns
-returns c = marking-end c.loop-i.invariant.1 (steps-end _ _ c.loop-i-test.false)
+returns c = marking-end c.loop-i.invariant.1 (steps-end c.args.list.now c.loop-i.i (omega arith))

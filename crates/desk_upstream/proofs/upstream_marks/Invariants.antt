@@ -1,5 +1,5 @@
 -- `desk_upstream::upstream_marks` meets its contract. Assumes nothing.
-use Prim.Native.Nat.{◌≤◌, ◌-◌}
+use Prim.Native.Nat.{◌≤◌}
 use lib.ListN.{drop}
 use Rattle.layout.specs.Content.{live_vertices}
 use Rattle.layout.specs.Layout.{limit, read, read_hyperedges}
@@ -12,6 +12,3 @@ use Rattle.desk_upstream.proofs.upstream_marks.Given as goal
 
 abbrev pub invariant-loop-j : goal.invariant-loop-j
 invariant-loop-j l = (l.j ≤ l.m) × Marking (live_vertices (read limit l.t)) (relates (Along To) l.v) (read_hyperedges limit l.t) (drop l.j (read_hyperedges limit l.t)) no_marks l.marks
-
-abbrev pub decreases-loop-j : goal.decreases-loop-j
-decreases-loop-j l = l.m - l.j

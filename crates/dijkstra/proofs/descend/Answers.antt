@@ -1,7 +1,6 @@
 -- `dijkstra::descend` meets its contract. Assumes nothing.
 use Rattle.distance.proofs.Descent.{down-first, down-there, down-lost, down-short, down-more}
 use native.Mathlib.Omega.{arith}
-use Prim.Native.Nat.{◌-◌}
 use Rattle.dijkstra.proofs.descend.Goals as goal
 
 pub loop-at-init : goal.loop-at-init
@@ -30,12 +29,6 @@ offset_bounds-out-at c = omega (arith, c.requires.0)
 
 pub bounds-out-at : goal.bounds-out-at
 bounds-out-at c = omega (arith, c.requires.0)
-
-pub overflow_add-at : goal.overflow_add-at
-overflow_add-at c = omega (arith, c.requires.0)
-
-pub loop-at-smaller : goal.loop-at-smaller
-loop-at-smaller c = omega arith
 
 pub loop-at-preserved : goal.loop-at-preserved
 loop-at-preserved c = down-more _ _ _ _ _ _ c.loop-at.invariant c.hop_from-next.result c.requires.0 c.loop-at-test.true c.if-d-u-eq0.false c.hop_from-next.ensures c.if-n-next.false

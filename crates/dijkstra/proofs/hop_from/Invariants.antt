@@ -8,6 +8,3 @@ use Rattle.dijkstra.proofs.hop_from.Given as goal
 
 abbrev pub invariant-loop-v : goal.invariant-loop-v
 invariant-loop-v l = (l.v ≤ l.n) × (least (is_tight (step_back l.c) (key_back l.c l.w) l.m l.d l.x) (l.n - l.v) l.v ≡ hop (step_back l.c) (key_back l.c l.w) l.n l.m l.d l.x)
-
-abbrev pub decreases-loop-v : goal.decreases-loop-v
-decreases-loop-v l = l.n - l.v

@@ -1,13 +1,13 @@
 -- `dijkstra_connections::pair_from` meets its contract. Assumes nothing.
-use borrow.Author.Rules.{rules}
+use Rattle.layout.proofs.Answers.{taken}
 use Rattle.paths.proofs.Answers.{record-below, found_below, second-missing, both_found}
 use Rattle.dijkstra_connections.proofs.pair_from.Goals as goal
 
-pub list_pair-requires : goal.list_pair-requires
-list_pair-requires c = record { formed = search rules; i_bound = (search record-below, search found_below) }
+pub list_pair-requires-clause-i_bound : goal.list_pair-requires-clause-i_bound
+list_pair-requires-clause-i_bound c = (search record-below, search (found_below, taken, c.in_ok-j.was))
 
-pub returns-in-Nothing : goal.returns-in-Nothing
-returns-in-Nothing c = search second-missing
+pub returns-in_err-j : goal.returns-in_err-j
+returns-in_err-j c = search (second-missing, c.in_err-j.was)
 
-pub returns-in-At : goal.returns-in-At
-returns-in-At c = search both_found
+pub returns : goal.returns
+returns c = search (both_found, taken, c.in_ok-j.was)

@@ -1,6 +1,5 @@
 -- `dijkstra_connections::put_steps` meets its contract: `Putting` at each step. Assumes nothing.
 use mathlib.Core.Path.{sym}
-use Prim.Native.Nat.{◌-◌}
 use native.Mathlib.Omega.{arith}
 use lib.ListN.{take}
 use lib.Seq.{get_or-take}

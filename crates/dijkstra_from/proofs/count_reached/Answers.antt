@@ -1,6 +1,5 @@
 -- `dijkstra_from::count_reached` meets its contract. Assumes nothing.
 use mathlib.Core.Path.{refl}
-use Prim.Native.Nat.{◌-◌}
 use native.Mathlib.Omega.{arith}
 use Rattle.lists.proofs.Count.{bit_le}
 use Rattle.paths.specs.Written.{is_reached}

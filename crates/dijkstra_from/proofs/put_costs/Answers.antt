@@ -1,5 +1,4 @@
 -- `dijkstra_from::put_costs` meets its contract: `Keyed` at each record. Assumes nothing.
-use Prim.Native.Nat.{◌-◌}
 use native.Mathlib.Omega.{arith}
 use Rattle.layout.specs.Layout.{limit, read}
 use Rattle.paths.proofs.Writing.{keyed-first, keyed-room, keyed-more, keyed-end}

@@ -6,8 +6,8 @@ use Rattle.effect_sheets.proofs.put_effect.Goals as goal
 pub members_formed-members-requires : goal.members_formed-members-requires
 members_formed-members-requires c = record { formed = search rules; j_bound = search found_within }
 
-pub returns-in-Nothing : goal.returns-in-Nothing
-returns-in-Nothing c = search gone-put
+pub returns-in-None : goal.returns-in-None
+returns-in-None c = search gone-put
 
-pub returns-in-At : goal.returns-in-At
-returns-in-At c = search found-put
+pub returns-in-Some : goal.returns-in-Some
+returns-in-Some c = search found-put

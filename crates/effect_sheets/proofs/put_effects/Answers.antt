@@ -1,5 +1,4 @@
 -- `effect_sheets::put_effects` meets its contract. Assumes nothing.
-use Prim.Native.Nat.{◌-◌}
 use Rattle.wording.proofs.Writing.{left-length}
 use Rattle.effect_sheets.proofs.Effects.{effects-first, effects-more, effects-end}
 use borrow.Author.Rules.{rules}

@@ -1,6 +1,5 @@
 -- `find::find_number` meets its contract: what lies outside lo and hi is settled. Assumes nothing.
 use Prim.Native.Nat.{ℕ, ◌≤◌, ◌<◌, ◌-◌, ◌+◌, ◌*◌, ◌/◌}
-use lib.ListN.{length}
 use Rattle.lists.proofs.Stride.{stride}
 use Rattle.layout.proofs.Bracket.{bracket-start, bracket-up, bracket-down, bracket-found, bracket-none}
 use native.Mathlib.Omega.{arith}

@@ -1,20 +1,15 @@
--- `find::first_missing_vertex` meets its contract: what is left of the search is the whole of it. Assumes nothing.
-use mathlib.Core.Path.{refl}
-use Prim.Native.Nat.{◌-◌}
-use Rattle.layout.specs.Inner.{first_missing}
-use Rattle.layout.proofs.Position.{missing-on, missing-here, missing-none}
-use borrow.Author.Rules.{rules}
+-- `find::first_missing_vertex` meets its contract. Assumes nothing.
+use mathlib.Core.Path.{◌∙◌}
+use Rattle.std.proofs.Common.{rules, tests}
+use Rattle.std.proofs.lemmas.Iterator.{YieldsList-from_slice}
+use Rattle.std.proofs.lemmas.Iterator.Search.{position_from_yields_List}
+use Rattle.layout.specs.Content.{live_vertices}
+use Rattle.layout.specs.Layout.{limit, read}
+use Rattle.find.proofs.Missing.{misses, first_missed}
 use Rattle.find.proofs.first_missing_vertex.Goals as goal
 
-pub loop-i-init : goal.loop-i-init
-unfolding first_missing
-loop-i-init c = (search rules, refl)
-
-pub returns-in-Nothing : goal.returns-in-Nothing
-returns-in-Nothing c = search missing-here
-
-pub loop-i-preserved : goal.loop-i-preserved
-loop-i-preserved c = (search rules, search missing-on)
-
 pub returns : goal.returns
-returns c = search missing-none
+returns c =
+    position_from_yields_List (misses (live_vertices (read limit c.args.t.now))) _ _ _ c.position.ensures.ran (YieldsList-from_slice c.args.list.now cc)
+    (λ x b q k. search (rules, tests))
+    ∙ first_missed _ _

@@ -1,5 +1,4 @@
 -- `firsts::first_places` meets its contract. Assumes nothing.
-use Prim.Native.Nat.{◌-◌}
 use Rattle.walk.proofs.FirstPlaces.{judged-none, judged-all}
 use borrow.Author.Rules.{rules}
 use Rattle.firsts.proofs.first_places.Goals as goal

@@ -1,5 +1,4 @@
 -- `firsts::judge_record` meets its contract. Assumes nothing.
-use Prim.Native.Nat.{◌-◌}
 use Rattle.walk.proofs.FirstPlaces.{judged-more, judged-next, place-within}
 use borrow.Author.Rules.{rules}
 use Rattle.firsts.proofs.judge_record.Goals as goal

@@ -1,11 +1,6 @@
 -- `firsts::judge_record` meets its contract. Assumes nothing.
-use Prim.Native.Nat.{◌-◌}
-use lib.ListN.{length}
 use Rattle.walk.specs.Passes.{FirstsMarked}
 use Rattle.firsts.proofs.judge_record.Given as goal
 
 abbrev pub invariant-loop-p : goal.invariant-loop-p
 invariant-loop-p l = FirstsMarked l.t l.j l.p l.firsts
-
-abbrev pub decreases-loop-p : goal.decreases-loop-p
-decreases-loop-p l = length l.ms - l.p

@@ -1,6 +1,5 @@
 -- `firsts::lists_vertex` meets its contract. Assumes nothing.
 use mathlib.Core.Path.{refl, ◌∙◌}
-use Prim.Native.Nat.{◌-◌}
 use Rattle.walk.proofs.FirstPlaces.{seen_here, seen-on, seen_end}
 use borrow.Author.Rules.{rules}
 use Rattle.firsts.proofs.lists_vertex.Goals as goal

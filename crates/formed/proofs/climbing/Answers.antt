@@ -1,5 +1,5 @@
 -- `formed::climbing` meets its contract: what is left of the test is the whole of it. Assumes nothing.
-use Prim.Native.Nat.{◌≤◌, ◌-◌, ◌+◌, ◌*◌}
+use Prim.Native.Nat.{◌≤◌, ◌+◌, ◌*◌}
 use lib.ListN.{length}
 use Rattle.lists.proofs.Ascend.{climb-on, climb-no-low, climb-no-high, climb-yes}
 use Rattle.lists.proofs.Stride.{stride}

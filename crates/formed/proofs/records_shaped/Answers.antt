@@ -1,6 +1,5 @@
 -- `formed::records_shaped` meets its contract. Assumes nothing.
 use mathlib.Core.Path.{refl}
-use Prim.Native.Nat.{◌-◌}
 use Rattle.lists.specs.Tests.{every}
 use Rattle.lists.proofs.Every.{every-on, every-no, every-end}
 use borrow.Author.Rules.{rules}

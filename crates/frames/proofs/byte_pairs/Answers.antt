@@ -1,6 +1,6 @@
 -- `frames::byte_pairs` meets its contract. Assumes nothing.
 use mathlib.Core.Path.{refl}
-use Prim.Native.Nat.{ℕ, ◌-◌}
+use Prim.Native.Nat.{ℕ}
 use lib.ListN.{length-replicate}
 use Rattle.frames.proofs.Bytes.{pairs-none, pairs-more, pairs_end}
 use borrow.Author.Rules.{rules}

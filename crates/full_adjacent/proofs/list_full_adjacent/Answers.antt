@@ -1,12 +1,12 @@
 -- `full_adjacent::list_full_adjacent` meets its contract. Assumes nothing.
 use Rattle.lookups.specs.Results.{full_adjacent_result}
-use Rattle.lookups.proofs.Found.{not_found, found-same}
+use Rattle.layout.proofs.Answers.{asked-missing, asked-found}
 use Rattle.full_adjacent.proofs.list_full_adjacent.Goals as goal
 
-pub returns-in-Nothing : goal.returns-in-Nothing
+pub returns-in_err-ok_or : goal.returns-in_err-ok_or
 unfolding full_adjacent_result
-returns-in-Nothing c = search not_found
+returns-in_err-ok_or c = search (asked-missing, c.in_err-ok_or.was)
 
-pub returns-in-At : goal.returns-in-At
+pub returns : goal.returns
 unfolding full_adjacent_result
-returns-in-At c = search found-same
+returns c = search (asked-found, c.in_ok-ok_or.was)

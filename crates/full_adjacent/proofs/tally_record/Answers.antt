@@ -1,6 +1,7 @@
 -- `full_adjacent::tally_record` meets its contract. Assumes nothing.
+use lib.ListN.{length}
 use mathlib.Core.Path.{refl, ◌∙◌}
-use Prim.Native.Nat.{◌-◌}
+use Prim.Native.Nat.{◌-◌, ◌+◌, ◌<◌}
 use native.Mathlib.Omega.{arith}
 use Rattle.layout.specs.Layout.{limit}
 use Rattle.layout.proofs.Read.{live-length, live-ascends}
@@ -19,7 +20,7 @@ tally-requires c = record { formed = search rules; by_index = λ k h. tallied-mo
 
 pub loop-i-preserved : goal.loop-i-preserved
 loop-i-preserved c =
-    let h = c.loop-i-test.true in let e = c.ends_at-ends.ensures in let f = c.requires.formed in (
+    let h : c.loop-i.i + 1 < length c.members_formed-ms.result.now = omega arith in let e = c.ends_at-ends.ensures in let f = c.requires.formed in (
       omega arith,
       elim c.if-ends-v.branch [
         | then-ends-v w ↦ tallied-one c.loop-i.invariant.1 _ _ (live-ascends limit c.args.t.now f) (live-fit limit c.args.t.now f)
@@ -29,4 +30,4 @@ loop-i-preserved c =
     )
 
 pub returns : goal.returns
-returns c = tallied-as c.loop-i.invariant.1 (passing-end _ _ _ _ _ _ c.loop-i-test.false) refl
+returns c = tallied-as c.loop-i.invariant.1 (passing-end _ _ _ c.members_formed-ms.result.now c.loop-i.i _ (omega arith)) refl

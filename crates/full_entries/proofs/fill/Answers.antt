@@ -1,6 +1,5 @@
 -- `full_entries::fill` meets its contract. Assumes nothing.
 use mathlib.Core.Path.{refl}
-use Prim.Native.Nat.{◌-◌}
 use native.Mathlib.Omega.{arith}
 use Rattle.layout.specs.Layout.{limit}
 use Rattle.lookups.proofs.Tally.{ahead-first, ahead-end}

@@ -1,5 +1,5 @@
 -- `full_entries::fill` meets its contract. Assumes nothing.
-use Prim.Native.Nat.{◌≤◌, ◌-◌}
+use Prim.Native.Nat.{◌≤◌}
 use lib.ListN.{length}
 use Rattle.layout.specs.Content.{live_vertices}
 use Rattle.layout.specs.Layout.{limit, read}
@@ -12,6 +12,3 @@ invariant-loop-j l =
     (l.j ≤ l.m)
     × (Filling (live_vertices (read limit l.t)) (connecting l.dir (read limit l.t) l.v) (listing_ahead l.dir (read limit l.t) l.v l.j) l.nexts l.out
     × Beyond (offset (live_vertices (read limit l.t)) (connecting l.dir (read limit l.t) l.v) (length (live_vertices (read limit l.t)))) l.initial.out l.out)
-
-abbrev pub decreases-loop-j : goal.decreases-loop-j
-decreases-loop-j l = l.m - l.j

@@ -1,5 +1,5 @@
 -- `full_entries::fill_record` meets its contract. Assumes nothing.
-use Prim.Native.Nat.{◌+◌, ◌≤◌, ◌-◌}
+use Prim.Native.Nat.{◌+◌, ◌≤◌}
 use lib.ListN.{length}
 use Rattle.layout.specs.Content.{live_vertices}
 use Rattle.layout.specs.Layout.{limit, read}
@@ -13,6 +13,3 @@ invariant-loop-i l =
     (l.i ≤ length l.ms)
     × (Filling (live_vertices (read limit l.t)) (connecting l.dir (read limit l.t) l.v) (passing l.dir l.v l.e l.ms l.i (listing_ahead l.dir (read limit l.t) l.v (l.j + 1))) l.nexts l.out
     × Beyond (offset (live_vertices (read limit l.t)) (connecting l.dir (read limit l.t) l.v) (length (live_vertices (read limit l.t)))) l.initial.out l.out)
-
-abbrev pub decreases-loop-i : goal.decreases-loop-i
-decreases-loop-i l = length l.ms - l.i

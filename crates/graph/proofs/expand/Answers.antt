@@ -6,7 +6,6 @@ use Rattle.graph.proofs.Sifted.{sifted-first, sifted-below, sifted-more, sifted-
 use mathlib.Core.Path.{refl}
 use native.Mathlib.Omega.{arith}
 use lib.ListN.{get_or}
-use Prim.Native.Nat.{◌-◌}
 use Rattle.graph.proofs.expand.Goals as goal
 
 pub overflow_sub-c : goal.overflow_sub-c
@@ -68,12 +67,6 @@ overflow_cast-end c = omega arith
 
 pub overflow_add-end : goal.overflow_add-end
 overflow_add-end c = omega (arith, byte_le (matrix c.args.adj.now c.args.x (get_or c.loop-k.rest c.loop-k.k 0)))
-
-pub overflow_add-k : goal.overflow_add-k
-overflow_add-k c = omega arith
-
-pub loop-k-smaller : goal.loop-k-smaller
-loop-k-smaller c = omega arith
 
 pub loop-k-preserved : goal.loop-k-preserved
 loop-k-preserved c = sifted-more c.loop-k.invariant c.loop-k-test.true c.requires.0 _ refl

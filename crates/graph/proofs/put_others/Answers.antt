@@ -4,7 +4,6 @@ use Rattle.graph.proofs.Sifted.{laid-first, laid_more, laid_end}
 use native.Mathlib.Omega.{arith}
 use mathlib.Core.Bool.{not}
 use lib.Dec.{eqb}
-use Prim.Native.Nat.{◌-◌}
 use Rattle.graph.proofs.put_others.Goals as goal
 
 pub loop-j-init : goal.loop-j-init
@@ -24,12 +23,6 @@ overflow_cast-w c = omega arith
 
 pub overflow_add-w : goal.overflow_add-w
 overflow_add-w c = omega (arith, byte_le (not (eqb c.loop-j.j c.args.start)))
-
-pub overflow_add-j : goal.overflow_add-j
-overflow_add-j c = omega arith
-
-pub loop-j-smaller : goal.loop-j-smaller
-loop-j-smaller c = omega arith
 
 pub loop-j-preserved : goal.loop-j-preserved
 loop-j-preserved c = laid_more c.loop-j.invariant c.requires.0 c.loop-j-test.true

@@ -1,6 +1,6 @@
 -- `hyperedge_blocks::count_blocks` meets its contract. Assumes nothing.
 use mathlib.Core.Path.{refl, ◌∙◌}
-use Prim.Native.Nat.{suc, ◌≤◌, ◌-◌}
+use Prim.Native.Nat.{suc, ◌≤◌}
 use native.Mathlib.Omega.{arith}
 use Rattle.layout.specs.Layout.{limit}
 use Rattle.lookups.specs.Lookups.{listing}

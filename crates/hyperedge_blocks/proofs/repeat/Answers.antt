@@ -1,18 +1,14 @@
 -- `hyperedge_blocks::repeat` meets its contract. Assumes nothing.
-use Prim.Native.Nat.{◌-◌}
-use native.Mathlib.Omega.{arith}
-use Rattle.lookups.proofs.Laid.{copied_none, repeated-more, repeated-end}
-use borrow.Author.Rules.{rules}
+use mathlib.Core.Path.{◌≡◌, ap, ◌∙◌}
+use Prim.Native.Nat.{ℕ}
+use lib.ListN.{length, take, replicate, length-replicate}
+use lib.Seq.{length-take-le}
+use Rattle.lists.specs.Lists.{over}
 use Rattle.hyperedge_blocks.proofs.repeat.Goals as goal
 
-pub loop-i-init : goal.loop-i-init
-loop-i-init c = (search rules, copied_none _ _)
-
-pub loop-i-preserved : goal.loop-i-preserved
-loop-i-preserved c = (omega arith, repeated-more _ _ c.loop-i.invariant.1 c.loop-i-test.true c.requires)
-
-pub shape_of-out : goal.shape_of-out
-shape_of-out c = c.loop-i.invariant.1.same
-
 pub returns : goal.returns
-returns c = repeated-end _ _ c.loop-i.invariant.1 c.loop-i-test.false
+unfolding over
+returns c =
+    let room : length (take c.args.k c.args.out.now) ≡ c.args.k = length-take-le c.args.k c.args.out.now c.requires in
+    let filled : c.fill.new.self ≡ replicate c.args.k c.args.x = c.fill.ensures.after (λ y e. e) ∙ ap (λ (n : ℕ). replicate n c.args.x) room in
+    rw (filled, length-replicate {A = ℕ} c.args.k c.args.x)

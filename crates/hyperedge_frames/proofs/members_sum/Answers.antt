@@ -1,5 +1,4 @@
 -- `hyperedge_frames::members_sum` meets its contract. Assumes nothing.
-use Prim.Native.Nat.{◌-◌}
 use Rattle.frames.proofs.Lines.{sum-none, sum_more, sum-end}
 use borrow.Author.Rules.{rules}
 use Rattle.hyperedge_frames.proofs.members_sum.Goals as goal

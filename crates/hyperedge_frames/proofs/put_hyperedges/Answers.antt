@@ -1,6 +1,5 @@
 -- `hyperedge_frames::put_hyperedges` meets its contract. Assumes nothing.
 use mathlib.Core.Path.{refl}
-use Prim.Native.Nat.{◌-◌}
 use Rattle.layout.specs.Layout.{limit}
 use Rattle.frames.proofs.Text.{hyperedges-none, line-room, hyperedges-more, hyperedges-end}
 use borrow.Author.Rules.{rules}

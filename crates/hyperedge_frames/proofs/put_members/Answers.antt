@@ -1,6 +1,5 @@
 -- `hyperedge_frames::put_members` meets its contract. Assumes nothing.
 use mathlib.Core.Path.{refl}
-use Prim.Native.Nat.{◌-◌}
 use Rattle.frames.proofs.Lines.{members-none, members-more, members-end}
 use borrow.Author.Rules.{rules}
 use Rattle.hyperedge_frames.proofs.put_members.Goals as goal

@@ -1,6 +1,6 @@
 -- `hyperedge_frames::put_members` meets its contract. Assumes nothing.
 use mathlib.Core.Path.{◌≡◌}
-use Prim.Native.Nat.{◌*◌, ◌-◌, ◌≤◌}
+use Prim.Native.Nat.{◌*◌, ◌≤◌}
 use lib.ListN.{length, take}
 use Rattle.lists.specs.Lists.{flat}
 use Rattle.frames.specs.Frames.{member_length}
@@ -9,6 +9,3 @@ use Rattle.hyperedge_frames.proofs.put_members.Given as goal
 
 abbrev pub invariant-loop-i : goal.invariant-loop-i
 invariant-loop-i l = (l.i ≤ length l.members) × (length l.text ≡ length l.initial.text) × Put l.at (l.i * member_length) (flat number_digits (take l.i l.members)) l.initial.text l.text l.next
-
-abbrev pub decreases-loop-i : goal.decreases-loop-i
-decreases-loop-i l = length l.members - l.i

@@ -1,6 +1,5 @@
 -- `hyperedge_lines::hyperedges_from` meets its contract. Assumes nothing.
-use Prim.Native.Nat.{◌-◌}
-use Rattle.reader.proofs.HyperedgeLines.{read-room, hyperedges-none, hyperedges-word, hyperedges-stop, hyperedges-bad, hyperedges-more, hyperedges-end, hyperedges-over}
+use Rattle.reader.proofs.HyperedgeLines.{read-room, hyperedges-none, hyperedges-word, hyperedges-stop, hyperedges-bad, hyperedges-more, hyperedges-all, hyperedges-over}
 use borrow.Author.Rules.{rules}
 use Rattle.hyperedge_lines.proofs.hyperedges_from.Goals as goal
 
@@ -20,4 +19,4 @@ pub loop-i-preserved : goal.loop-i-preserved
 loop-i-preserved c = search hyperedges-more
 
 pub returns : goal.returns
-returns c = record { hyperedges_read = search hyperedges-end; lines_value = search hyperedges-over }
+returns c = record { hyperedges_read = search hyperedges-all; lines_value = λ l. search hyperedges-over }

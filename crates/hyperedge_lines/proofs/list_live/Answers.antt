@@ -1,6 +1,5 @@
 -- `hyperedge_lines::list_live` meets its contract. Assumes nothing.
 use mathlib.Core.Path.{refl}
-use Prim.Native.Nat.{◌-◌}
 use Rattle.reader.proofs.Live.{list_on, list-no, list-end}
 use borrow.Author.Rules.{rules}
 use Rattle.hyperedge_lines.proofs.list_live.Goals as goal
@@ -12,7 +11,7 @@ pub returns-then-not-is_live : goal.returns-then-not-is_live
 returns-then-not-is_live c = search list-no
 
 pub loop-i-preserved : goal.loop-i-preserved
-loop-i-preserved c = (search rules, list_on _ _ _ c.loop-i.invariant.1 _ _ c.wide_word.ensures.0 c.is_live.ensures c.loop-i-test.true c.if-not-is_live.false-raw)
+loop-i-preserved c = (search rules, search list_on)
 
 pub returns : goal.returns
 returns c = search list-end

@@ -1,17 +1,6 @@
 -- `hyperedge_lines::put_words` meets its contract. Assumes nothing.
-use mathlib.Core.Path.{refl}
-use Prim.Native.Nat.{◌-◌}
-use lib.ListN.{length-set}
-use lib.Seq.{paste-zero}
-use Rattle.frames.proofs.Bytes.{copied_more, copied-end}
-use borrow.Author.Rules.{rules}
+use Rattle.frames.proofs.Bytes.{bytes-copied}
 use Rattle.hyperedge_lines.proofs.put_words.Goals as goal
 
-pub loop-i-init : goal.loop-i-init
-loop-i-init c = (search rules, refl, paste-zero _ c.args.to c.args.list.now)
-
-pub loop-i-preserved : goal.loop-i-preserved
-loop-i-preserved c = (search rules, simp length-set (search rules), search copied_more)
-
 pub returns : goal.returns
-returns c = search copied-end
+returns c = bytes-copied _ _ _ _ c.copy_from_slice.ensures.after c.requires

@@ -1,6 +1,6 @@
 -- `inclusions::count_of` meets its contract. Assumes nothing.
 use mathlib.Core.Path.{refl}
-use Prim.Native.Nat.{◌≤◌, ◌-◌}
+use Prim.Native.Nat.{◌≤◌}
 use native.Mathlib.Omega.{arith}
 use Rattle.layout.specs.Layout.{limit, hyperedge_at, read}
 use Rattle.properties.specs.Properties.{pairs_of}

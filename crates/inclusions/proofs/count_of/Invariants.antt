@@ -1,5 +1,5 @@
 -- `inclusions::count_of` meets its contract. Assumes nothing.
-use Prim.Native.Nat.{◌≤◌, ◌-◌}
+use Prim.Native.Nat.{◌≤◌}
 use Rattle.layout.specs.Layout.{limit, hyperedge_at, read}
 use Rattle.properties.specs.Properties.{pair}
 use Rattle.properties.proofs.Blocks.{Totalled}
@@ -7,6 +7,3 @@ use Rattle.inclusions.proofs.count_of.Given as goal
 
 abbrev pub invariant-loop-b : goal.invariant-loop-b
 invariant-loop-b l = (l.b ≤ l.k) × Totalled (pair (read limit l.t) (hyperedge_at limit l.t l.a)) (hyperedge_at limit l.t) 2 l.b l.c
-
-abbrev pub decreases-loop-b : goal.decreases-loop-b
-decreases-loop-b l = l.k - l.b

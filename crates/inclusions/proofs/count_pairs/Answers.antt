@@ -1,6 +1,6 @@
 -- `inclusions::count_pairs` meets its contract. Assumes nothing.
 use mathlib.Core.Path.{refl}
-use Prim.Native.Nat.{◌≤◌, ◌-◌, ◌*◌}
+use Prim.Native.Nat.{◌≤◌, ◌*◌}
 use native.Mathlib.Omega.{arith}
 use Rattle.layout.specs.Layout.{limit, hyperedge_limit, hyperedge_at}
 use Rattle.properties.specs.Properties.{inclusions}

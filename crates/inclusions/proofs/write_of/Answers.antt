@@ -1,6 +1,6 @@
 -- `inclusions::write_of` meets its contract. Assumes nothing.
 use Rattle.properties.proofs.Blocks.{laid-wrote}
-use Prim.Native.Nat.{◌≤◌, ◌-◌, ◌+◌}
+use Prim.Native.Nat.{◌≤◌, ◌+◌}
 use native.Mathlib.Omega.{arith}
 use lib.ListN.{length}
 use Rattle.layout.specs.Layout.{limit, hyperedge_count, hyperedge_at, read}

@@ -1,5 +1,4 @@
 -- `intersections::keep_common` meets its contract. Assumes nothing.
-use Prim.Native.Nat.{◌-◌}
 use native.Mathlib.Omega.{arith}
 use Rattle.lookups.proofs.Shared.{common-none, common-more, common-end}
 use borrow.Author.Rules.{rules}

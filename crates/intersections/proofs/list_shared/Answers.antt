@@ -16,9 +16,9 @@ offset_bounds-hyperedges-i c = search (rules, missing-within)
 pub bounds-hyperedges-i : goal.bounds-hyperedges-i
 bounds-hyperedges-i c = search missing-within
 
-pub returns-in-At : goal.returns-in-At
-returns-in-At c = search shared-missing
+pub returns-in-Some : goal.returns-in-Some
+returns-in-Some c = search shared-missing
 
-pub returns-in-Nothing : goal.returns-in-Nothing
+pub returns : goal.returns
 unfolding shared
-returns-in-Nothing c = search (shared-listed, marks-listed)
+returns c = search (shared-listed, marks-listed)

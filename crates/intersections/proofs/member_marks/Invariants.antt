@@ -1,5 +1,5 @@
 -- `intersections::member_marks` meets its contract. Assumes nothing.
-use Prim.Native.Nat.{◌≤◌, ◌-◌}
+use Prim.Native.Nat.{◌≤◌}
 use lib.Dec.{eqb}
 use lib.ListN.{length, drop}
 use Rattle.layout.specs.Content.{live_vertices}
@@ -10,6 +10,3 @@ use Rattle.intersections.proofs.member_marks.Given as goal
 
 abbrev pub invariant-loop-i : goal.invariant-loop-i
 invariant-loop-i l = (l.i ≤ length l.ms) × Marking (live_vertices (read limit l.t)) eqb l.ms (drop l.i l.ms) no_marks l.marks
-
-abbrev pub decreases-loop-i : goal.decreases-loop-i
-decreases-loop-i l = length l.ms - l.i

@@ -1,5 +1,4 @@
 -- `intersections::shared_marks` meets its contract. Assumes nothing.
-use Prim.Native.Nat.{◌-◌}
 use native.Mathlib.Omega.{arith}
 use Rattle.layout.specs.Layout.{limit}
 use Rattle.lookups.specs.Lookups.{is_shared}
@@ -13,9 +12,9 @@ pub loop-i-init : goal.loop-i-init
 unfolding all_marks
 loop-i-init c = (search rules, keeping_none _ _ _ (live-fit limit c.args.t.now c.requires))
 
-pub returns-in-Nothing : goal.returns-in-Nothing
+pub returns-in_default : goal.returns-in_default
 unfolding no_marks is_shared
-returns-in-Nothing c = keeping-over c.loop-i.invariant.1 (live-fit limit c.args.t.now c.requires) (drop_more _ _ c.loop-i-test.true) (search no_member)
+returns-in_default c = keeping-over c.loop-i.invariant.1 (live-fit limit c.args.t.now c.requires) (drop_more _ _ c.loop-i-test.true) (search no_member)
 
 pub keep_members-requires : goal.keep_members-requires
 keep_members-requires c = record { formed = search rules; j_bound = (search found_in, c.loop-i.invariant.1.sized) }

@@ -1,5 +1,5 @@
 -- `intersections::shared_marks` meets its contract. Assumes nothing.
-use Prim.Native.Nat.{◌≤◌, ◌-◌}
+use Prim.Native.Nat.{◌≤◌}
 use lib.ListN.{length, drop}
 use Rattle.layout.specs.Content.{live_vertices}
 use Rattle.layout.specs.Layout.{limit, read}
@@ -9,6 +9,3 @@ use Rattle.intersections.proofs.shared_marks.Given as goal
 
 abbrev pub invariant-loop-i : goal.invariant-loop-i
 invariant-loop-i l = (l.i ≤ length l.hyperedges) × Keeping (live_vertices (read limit l.t)) (has_member (read limit l.t)) l.hyperedges (drop l.i l.hyperedges) l.marks
-
-abbrev pub decreases-loop-i : goal.decreases-loop-i
-decreases-loop-i l = length l.hyperedges - l.i

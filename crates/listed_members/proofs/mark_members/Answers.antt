@@ -1,6 +1,5 @@
 -- `listed_members::mark_members` meets its contract. Assumes nothing.
 use mathlib.Core.Path.{◌∙◌}
-use Prim.Native.Nat.{◌-◌}
 use native.Mathlib.Omega.{arith}
 use Rattle.layout.specs.Layout.{limit}
 use Rattle.lookups.proofs.Marking.{mark-one, marking-none, marking-more, marking-end, drop_more, drop-none}

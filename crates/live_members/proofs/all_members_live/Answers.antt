@@ -1,6 +1,5 @@
 -- `live_members::all_members_live` meets its contract. Assumes nothing.
 use mathlib.Core.Path.{refl}
-use Prim.Native.Nat.{◌-◌}
 use Rattle.lists.specs.Tests.{every}
 use Rattle.lists.proofs.Every.{every-on, every-no, every-end}
 use Rattle.layout.proofs.Shape.{count-le}

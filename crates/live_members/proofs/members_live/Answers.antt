@@ -1,5 +1,4 @@
 -- `live_members::members_live` meets its contract: what is left of the members is the whole of them. Assumes nothing.
-use Prim.Native.Nat.{◌-◌}
 use Rattle.lists.proofs.All.{all-on, all-no, all_end}
 use Rattle.formed.proofs.Judged.{members-are, members-few}
 use borrow.Author.Rules.{rules}

@@ -1,5 +1,4 @@
 -- `lookups::holds` meets its contract. Assumes nothing.
-use Prim.Native.Nat.{◌-◌}
 use native.Mathlib.Omega.{arith}
 use Rattle.lookups.proofs.Marking.{met-none, met-here, met-on, met-end}
 use borrow.Author.Rules.{rules}

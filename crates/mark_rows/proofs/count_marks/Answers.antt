@@ -1,6 +1,5 @@
 -- `mark_rows::count_marks` meets its contract. Assumes nothing.
 use mathlib.Core.Path.{refl}
-use Prim.Native.Nat.{◌-◌}
 use native.Mathlib.Omega.{arith}
 use Rattle.mark_rows.proofs.Rows.{row-count-more, row_count_lem}
 use Rattle.mark_rows.proofs.count_marks.Goals as goal
@@ -22,12 +21,6 @@ bounds-rows-x c = omega arith
 
 pub overflow_add-c : goal.overflow_add-c
 overflow_add-c c = omega (arith, c.count_word-c.ensures.1)
-
-pub overflow_add-w : goal.overflow_add-w
-overflow_add-w c = omega arith
-
-pub loop-w-smaller : goal.loop-w-smaller
-loop-w-smaller c = omega arith
 
 pub loop-w-preserved : goal.loop-w-preserved
 loop-w-preserved c = (omega arith, search row-count-more, omega (arith, c.count_word-c.ensures.1))

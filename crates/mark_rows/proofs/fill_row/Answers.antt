@@ -1,5 +1,4 @@
 -- `mark_rows::fill_row` meets its contract. Assumes nothing.
-use Prim.Native.Nat.{◌-◌}
 use native.Mathlib.Omega.{arith}
 use Rattle.mark_rows.proofs.Rows.{begun_first, begun_more, begun-end}
 use Rattle.mark_rows.proofs.fill_row.Goals as goal
@@ -24,12 +23,6 @@ offset_bounds-rows-x c = omega arith
 
 pub bounds-rows-x : goal.bounds-rows-x
 bounds-rows-x c = omega arith
-
-pub overflow_add-w : goal.overflow_add-w
-overflow_add-w c = omega arith
-
-pub loop-w-smaller : goal.loop-w-smaller
-loop-w-smaller c = omega arith
 
 pub loop-w-preserved : goal.loop-w-preserved
 loop-w-preserved c = (omega arith, search begun_more)

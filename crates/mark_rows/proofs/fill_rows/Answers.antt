@@ -1,5 +1,4 @@
 -- `mark_rows::fill_rows` meets its contract. Assumes nothing.
-use Prim.Native.Nat.{◌-◌}
 use native.Mathlib.Omega.{arith}
 use Rattle.mark_rows.proofs.Rows.{filled-first, filled_more, filled-end}
 use Rattle.mark_rows.proofs.fill_rows.Goals as goal
@@ -9,12 +8,6 @@ loop-x-init c = (omega arith, filled-first _ _ _ c.requires.1)
 
 pub fill_row-requires : goal.fill_row-requires
 fill_row-requires c = (c.requires.0, omega arith, c.loop-x.invariant.1.long)
-
-pub overflow_add-x : goal.overflow_add-x
-overflow_add-x c = omega arith
-
-pub loop-x-smaller : goal.loop-x-smaller
-loop-x-smaller c = omega arith
 
 pub loop-x-preserved : goal.loop-x-preserved
 loop-x-preserved c = (omega arith, search filled_more)

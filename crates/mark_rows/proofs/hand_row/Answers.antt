@@ -1,5 +1,4 @@
 -- `mark_rows::hand_row` meets its contract. Assumes nothing.
-use Prim.Native.Nat.{◌-◌}
 use native.Mathlib.Omega.{arith}
 use Rattle.mark_rows.proofs.Rows.{begun_first, begun_more, begun-either, begun-end}
 use Rattle.mark_rows.proofs.hand_row.Goals as goal
@@ -33,12 +32,6 @@ bounds-rows-x c = omega arith
 
 pub bounds-rows-x-in-loop-i : goal.bounds-rows-x-in-loop-i
 bounds-rows-x-in-loop-i c = omega arith
-
-pub overflow_add-i : goal.overflow_add-i
-overflow_add-i c = omega arith
-
-pub loop-i-smaller : goal.loop-i-smaller
-loop-i-smaller c = omega arith
 
 pub loop-i-preserved : goal.loop-i-preserved
 loop-i-preserved c =

@@ -1,5 +1,4 @@
 -- `mark_rows::word_of` meets its contract. Assumes nothing.
-use Prim.Native.Nat.{◌-◌}
 use native.Mathlib.Omega.{arith}
 use Rattle.graph.specs.Reach.{matrix}
 use Rattle.mark_rows.proofs.Rows.{made_none, made_more, made-end}
@@ -10,9 +9,6 @@ word_end-end-requires c = omega arith
 
 pub loop-b-init : goal.loop-b-init
 loop-b-init c = (omega (arith, c.word_end-end.ensures.begins), made_none (matrix c.args.m.now c.args.x) c.args.first)
-
-pub overflow_add-first : goal.overflow_add-first
-overflow_add-first c = omega (arith, c.word_end-end.ensures.within)
 
 pub overflow_mul-word : goal.overflow_mul-word
 overflow_mul-word c = omega arith
@@ -32,15 +28,9 @@ overflow_cast-word c = tt
 pub overflow_shl-word : goal.overflow_shl-word
 overflow_shl-word c = omega (arith, c.word_end-end.ensures.within)
 
-pub overflow_add-b : goal.overflow_add-b
-overflow_add-b c = omega (arith, c.word_end-end.ensures.within)
-
-pub loop-b-smaller : goal.loop-b-smaller
-loop-b-smaller c = omega arith
-
 pub loop-b-preserved : goal.loop-b-preserved
 loop-b-preserved c =
     (omega arith, made_more (matrix c.args.m.now c.args.x) c.args.first c.loop-b.b c.loop-b.word (omega (arith, c.word_end-end.ensures.within)) c.loop-b.invariant.1)
 
 pub returns : goal.returns
-returns c = search made-end
+returns c = made-end _ _ _ _ _ _ _ c.word_end-end.ensures c.loop-b.invariant.1 c.loop-b.invariant.0 (omega arith)

@@ -5,8 +5,8 @@ use Rattle.marks.proofs.mark.Goals as goal
 pub bounds-marks-i : goal.bounds-marks-i
 bounds-marks-i c = search marked-in
 
-pub returns-in-Nothing : goal.returns-in-Nothing
-returns-in-Nothing c = search marked-none
+pub returns-in-None : goal.returns-in-None
+returns-in-None c = search marked-none
 
-pub returns-in-At : goal.returns-in-At
-returns-in-At c = search marked-one
+pub returns-in-Some : goal.returns-in-Some
+returns-in-Some c = search marked-one

@@ -15,8 +15,8 @@ offset_bounds-members-i c = search (rules, missing-within)
 pub bounds-members-i : goal.bounds-members-i
 bounds-members-i c = search missing-within
 
-pub returns-in-At : goal.returns-in-At
-returns-in-At c = search judged-missing
+pub returns-in-Some : goal.returns-in-Some
+returns-in-Some c = search judged-missing
 
-pub returns-in-Nothing : goal.returns-in-Nothing
-returns-in-Nothing c = search judged-live
+pub returns-in-None : goal.returns-in-None
+returns-in-None c = search judged-live

@@ -9,8 +9,8 @@ offset_bounds-members-i c = search (rules, neighbour-within)
 pub bounds-members-i : goal.bounds-members-i
 bounds-members-i c = search neighbour-within
 
-pub returns-in-At : goal.returns-in-At
-returns-in-At c = search neighbours-equal
+pub returns-in-Some : goal.returns-in-Some
+returns-in-Some c = search neighbours-equal
 
-pub returns-in-Nothing : goal.returns-in-Nothing
-returns-in-Nothing c = search neighbours-fine
+pub returns-in-None : goal.returns-in-None
+returns-in-None c = search neighbours-fine

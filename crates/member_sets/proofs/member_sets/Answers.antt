@@ -1,6 +1,5 @@
 -- `member_sets::member_sets` meets its contract. Assumes nothing.
 use native.Mathlib.Omega.{arith}
-use Prim.Native.Nat.{◌-◌}
 use Rattle.properties.proofs.SetRows.{sets-none, sets_more, sets_end}
 use borrow.Author.Rules.{rules}
 use Rattle.member_sets.proofs.member_sets.Goals as goal

@@ -1,6 +1,5 @@
 -- `member_sets::part_within` meets its contract. Assumes nothing.
 use mathlib.Core.Path.{sym}
-use Prim.Native.Nat.{◌-◌}
 use Rattle.properties.proofs.SetRows.{part-more, part-all}
 use borrow.Author.Rules.{rules}
 use Rattle.member_sets.proofs.part_within.Goals as goal

@@ -1,5 +1,4 @@
 -- `member_sets::put_row` meets its contract. Assumes nothing.
-use Prim.Native.Nat.{◌-◌}
 use native.Mathlib.Omega.{arith}
 use Rattle.properties.proofs.SetRows.{putting-none, putting-more, putting-end}
 use borrow.Author.Rules.{rules}

@@ -1,6 +1,5 @@
 -- `member_sets::within` meets its contract. Assumes nothing.
 use mathlib.Core.Path.{refl}
-use Prim.Native.Nat.{◌-◌}
 use Rattle.lists.specs.Tests.{every}
 use Rattle.properties.proofs.SetRows.{within_on, within-no, within_end}
 use borrow.Author.Rules.{rules}

@@ -18,8 +18,8 @@ returns-then-not-firsts-j c = search entering-again
 pub append-requires : goal.append-requires
 append-requires c = record { i_lt_vertex_limit = (search enter-in, search rules); i_bound = search enter-room }
 
-pub returns-in-Nothing : goal.returns-in-Nothing
-returns-in-Nothing c = search enter-none
+pub returns-in_default : goal.returns-in_default
+returns-in_default c = search enter-none
 
-pub returns-in-At : goal.returns-in-At
-returns-in-At c = search enter_one
+pub returns-in-Some : goal.returns-in-Some
+returns-in-Some c = search enter_one

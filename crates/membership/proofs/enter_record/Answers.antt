@@ -1,5 +1,4 @@
 -- `membership::enter_record` meets its contract. Assumes nothing.
-use Prim.Native.Nat.{◌-◌}
 use Rattle.walk.proofs.Entered.{entering-none, listed_in_lem, listed_at, entering-all}
 use borrow.Author.Rules.{rules}
 use Rattle.membership.proofs.enter_record.Goals as goal

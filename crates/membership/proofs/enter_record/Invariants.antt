@@ -1,11 +1,6 @@
 -- `membership::enter_record` meets its contract. Assumes nothing.
-use Prim.Native.Nat.{◌-◌}
-use lib.ListN.{length}
 use Rattle.walk.specs.Passes.{Entering}
 use Rattle.membership.proofs.enter_record.Given as goal
 
 abbrev pub invariant-loop-p : goal.invariant-loop-p
 invariant-loop-p l = Entering l.t l.j l.p l.rows l.counts
-
-abbrev pub decreases-loop-p : goal.decreases-loop-p
-decreases-loop-p l = length l.ms - l.p

@@ -1,5 +1,4 @@
 -- `membership::list_members` meets its contract. Assumes nothing.
-use Prim.Native.Nat.{◌-◌}
 use Rattle.walk.proofs.Entered.{listed-none, listed-all}
 use borrow.Author.Rules.{rules}
 use Rattle.membership.proofs.list_members.Goals as goal

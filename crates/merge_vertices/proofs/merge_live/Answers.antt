@@ -12,8 +12,8 @@ hyperedge_number-requires c = (search rules, search beside-within)
 pub drop_vertex-requires : goal.drop_vertex-requires
 drop_vertex-requires c = (search rules, (search gone-below, search rules))
 
-pub returns-in-At : goal.returns-in-At
-returns-in-At c = search merge-beside
+pub returns-in-Some : goal.returns-in-Some
+returns-in-Some c = search merge-beside
 
-pub returns-in-Nothing : goal.returns-in-Nothing
-returns-in-Nothing c = search merge-done
+pub returns : goal.returns
+returns c = search merge-done

@@ -1,5 +1,4 @@
 -- `moves::first_greater` meets its contract. Assumes nothing.
-use Prim.Native.Nat.{◌-◌}
 use Rattle.walk.proofs.Listing.{left-all, left-take, left-on, left_end, listers-limit}
 use borrow.Author.Rules.{rules}
 use Rattle.moves.proofs.first_greater.Goals as goal

@@ -1,5 +1,4 @@
 -- `moves::total_weight` meets its contract. Assumes nothing.
-use Prim.Native.Nat.{◌-◌}
 use Rattle.walk.proofs.Listing.{summed-none, summed-more, summed-end, listers-limit}
 use borrow.Author.Rules.{rules}
 use Rattle.moves.proofs.total_weight.Goals as goal

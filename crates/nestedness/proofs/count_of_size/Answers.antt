@@ -1,6 +1,6 @@
 -- `nestedness::count_of_size` meets its contract. Assumes nothing.
 use mathlib.Core.Path.{refl}
-use Prim.Native.Nat.{◌≤◌, ◌-◌}
+use Prim.Native.Nat.{◌≤◌}
 use native.Mathlib.Omega.{arith}
 use Rattle.lists.proofs.Count.{count-end}
 use Rattle.properties.proofs.Rows.{bit-most, size-more}

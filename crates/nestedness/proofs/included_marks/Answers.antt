@@ -1,5 +1,4 @@
 -- `nestedness::included_marks` meets its contract. Assumes nothing.
-use Prim.Native.Nat.{◌-◌}
 use native.Mathlib.Omega.{arith}
 use Rattle.lookups.specs.State.{no_marks}
 use Rattle.properties.proofs.Rows.{including-none, including-more, including-end}

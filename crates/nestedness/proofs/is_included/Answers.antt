@@ -1,6 +1,5 @@
 -- `nestedness::is_included` meets its contract. Assumes nothing.
 use mathlib.Core.Path.{refl}
-use Prim.Native.Nat.{◌-◌}
 use native.Mathlib.Omega.{arith}
 use Rattle.properties.specs.Properties.{is_included}
 use Rattle.properties.proofs.Rows.{some-on, some-here, some-none}

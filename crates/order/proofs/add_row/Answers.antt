@@ -1,5 +1,4 @@
 -- `order::add_row` meets its contract. Assumes nothing.
-use Prim.Native.Nat.{◌-◌}
 use Rattle.order.proofs.Rows.{part-first, part_small, part-added, part_end}
 use borrow.Author.Rules.{rules}
 use Rattle.order.proofs.add_row.Goals as goal

@@ -1,5 +1,4 @@
 -- `order::degrees` meets its contract. Assumes nothing.
-use Prim.Native.Nat.{◌-◌}
 use Rattle.order.proofs.State.{degrees-more, degrees-end}
 use borrow.Author.Rules.{rules}
 use Rattle.order.proofs.degrees.Goals as goal

@@ -1,14 +1,16 @@
 -- `order::first` meets its contract. Assumes nothing.
-use Prim.Native.Nat.{◌-◌}
-use Rattle.order.proofs.Blocks.{left-found, left-on, left-none}
+use Rattle.order.proofs.Blocks.{first-begun, first-found, first-on, first-none}
 use borrow.Author.Rules.{rules}
 use Rattle.order.proofs.first.Goals as goal
 
-pub returns-then-need-j-eq0 : goal.returns-then-need-j-eq0
-returns-then-need-j-eq0 c = search left-found
+pub loop-j-init : goal.loop-j-init
+loop-j-init c = (search rules, search first-begun)
 
-pub loop-k-preserved : goal.loop-k-preserved
-loop-k-preserved c = (search rules, search left-on)
+pub returns-then-need-j-eq0 : goal.returns-then-need-j-eq0
+returns-then-need-j-eq0 c = search first-found
+
+pub loop-j-preserved : goal.loop-j-preserved
+loop-j-preserved c = (search rules, search first-on)
 
 pub returns : goal.returns
-returns c = search left-none
+returns c = search first-none

@@ -5,8 +5,5 @@ use Rattle.order.specs.Least.{least}
 use Rattle.order.specs.State.{is_free}
 use Rattle.order.proofs.first.Given as goal
 
-abbrev pub invariant-loop-k : goal.invariant-loop-k
-invariant-loop-k l = (l.k ≤ l.n) × (least (is_free l.need) l.k (l.n - l.k) ≡ least (is_free l.need) l.n 0)
-
-abbrev pub decreases-loop-k : goal.decreases-loop-k
-decreases-loop-k l = l.k
+abbrev pub invariant-loop-j : goal.invariant-loop-j
+invariant-loop-j l = (l.j ≤ l.n) × (least (is_free l.need) (l.n - l.j) l.j ≡ least (is_free l.need) l.n 0)

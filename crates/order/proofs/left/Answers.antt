@@ -1,5 +1,4 @@
 -- `order::left` meets its contract. Assumes nothing.
-use Prim.Native.Nat.{◌-◌}
 use Rattle.order.proofs.Blocks.{left-first, left-pass}
 use borrow.Author.Rules.{rules}
 use Rattle.order.proofs.left.Goals as goal

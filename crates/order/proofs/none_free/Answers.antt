@@ -1,5 +1,4 @@
 -- `order::none_free` meets its contract. Assumes nothing.
-use Prim.Native.Nat.{◌-◌}
 use Rattle.order.proofs.Blocks.{block-first, block_more, block-end}
 use borrow.Author.Rules.{rules}
 use Rattle.order.proofs.none_free.Goals as goal

@@ -1,5 +1,4 @@
 -- `order::settle` meets its contract. Assumes nothing.
-use Prim.Native.Nat.{◌-◌}
 use Rattle.order.proofs.Rows.{part-first, part-owed, part-taken, part_end}
 use borrow.Author.Rules.{rules}
 use Rattle.order.proofs.settle.Goals as goal

@@ -1,5 +1,4 @@
 -- `order::sort` meets its contract. Assumes nothing.
-use Prim.Native.Nat.{◌-◌}
 use Rattle.order.proofs.State.{degrees-first, sorting-first, sorting-fits, sorting-word, sorting-next, sorting-less, sorting-owed, sorting-more, sorting-end}
 use borrow.Author.Rules.{rules}
 use Rattle.order.proofs.sort.Goals as goal

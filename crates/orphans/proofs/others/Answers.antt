@@ -1,5 +1,4 @@
 -- `orphans::others` meets its contract. Assumes nothing.
-use Prim.Native.Nat.{◌-◌}
 use Rattle.lookups.specs.State.{no_marks}
 use Rattle.properties.proofs.Marking.{turned_none, turned_more, turned-end}
 use borrow.Author.Rules.{rules}

@@ -5,8 +5,8 @@ use Rattle.parse_line.proofs.help_on.Goals as goal
 pub returns-then-rest-eq0 : goal.returns-then-rest-eq0
 returns-then-rest-eq0 c = search help-alone
 
-pub returns-in-At : goal.returns-in-At
-returns-in-At c = search help-at
+pub returns-in-Some : goal.returns-in-Some
+returns-in-Some c = search help-at
 
-pub returns-in-Nothing : goal.returns-in-Nothing
-returns-in-Nothing c = search help-none
+pub returns-in-None : goal.returns-in-None
+returns-in-None c = search help-none

@@ -7,8 +7,8 @@ use Rattle.parse_line.proofs.parse.Goals as goal
 pub parse_as-requires : goal.parse_as-requires
 parse_as-requires c = record { opens = search opens-found; numbers_len = search rules }
 
-pub returns-in-At : goal.returns-in-At
-returns-in-At c = search parsing-at
+pub returns-in-Some : goal.returns-in-Some
+returns-in-Some c = search parsing-at
 
-pub returns-in-Nothing : goal.returns-in-Nothing
-returns-in-Nothing c = search parsing-none
+pub returns-in-None : goal.returns-in-None
+returns-in-None c = search parsing-none

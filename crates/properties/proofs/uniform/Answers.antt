@@ -1,6 +1,5 @@
 -- `properties::uniform` meets its contract. Assumes nothing.
 use mathlib.Core.Path.{refl}
-use Prim.Native.Nat.{◌-◌}
 use Rattle.lists.specs.Tests.{every}
 use Rattle.properties.proofs.Members.{uniform-on, uniform-no, uniform-end}
 use borrow.Author.Rules.{rules}

@@ -1,7 +1,7 @@
 -- `properties::uniform` meets its contract. Assumes nothing.
 use mathlib.Core.Path.{◌≡◌}
 use mathlib.Core.Bool.{true}
-use Prim.Native.Nat.{◌≤◌, ◌-◌}
+use Prim.Native.Nat.{◌≤◌}
 use Rattle.lists.specs.Tests.{every}
 use Rattle.layout.specs.Layout.{limit}
 use Rattle.properties.proofs.Members.{count_is}
@@ -9,6 +9,3 @@ use Rattle.properties.proofs.uniform.Given as goal
 
 abbrev pub invariant-loop-j : goal.invariant-loop-j
 invariant-loop-j l = (l.j ≤ l.m) × (every (count_is limit l.k l.t) l.j ≡ true)
-
-abbrev pub decreases-loop-j : goal.decreases-loop-j
-decreases-loop-j l = l.m - l.j

@@ -1,5 +1,7 @@
 -- `put_read::is_live` meets its contract. Assumes nothing.
-use Rattle.reader.proofs.Live.{live-dense, live-ascends, live-near, live-found, live-missing}
+use mathlib.Core.Path.{◌∙◌}
+use Rattle.find.proofs.Missing.{searched}
+use Rattle.reader.proofs.Live.{live-dense, live-ascends, live-near, live-column}
 use Rattle.std.proofs.Common.{rules}
 use Rattle.put_read.proofs.is_live.Goals as goal
 
@@ -9,11 +11,8 @@ returns-then-wide_word-n c = search live-dense
 pub returns-then-wide_word-x : goal.returns-then-wide_word-x
 returns-then-wide_word-x c = search live-near
 
-pub find_number-found-requires : goal.find_number-found-requires
-find_number-found-requires c = record { step_in_bounds = search rules; step_nonzero = search rules; ascending = search live-ascends }
+pub find_number-requires : goal.find_number-requires
+find_number-requires c = record { step_in_bounds = search rules; step_nonzero = search rules; ascending = search live-ascends }
 
-pub returns-in-At : goal.returns-in-At
-returns-in-At c = search live-found
-
-pub returns-in-Nothing : goal.returns-in-Nothing
-returns-in-Nothing c = search live-missing
+pub returns : goal.returns
+returns c = c.is_some.ensures ∙ searched _ _ _ c.find_number.ensures ∙ live-column _ _ c.requires.live c.vertex_count-n.ensures _

@@ -1,5 +1,5 @@
 -- `put_read::put_members` meets its contract. Assumes nothing.
-use Rattle.std.proofs.Common.{◌-◌, refl, rules}
+use Rattle.std.proofs.Common.{refl, rules}
 use Rattle.reader.proofs.Words.{numbers-none, numbers_more, numbers-end, member-word}
 use Rattle.put_read.proofs.put_members.Goals as goal
 

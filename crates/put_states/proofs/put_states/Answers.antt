@@ -1,6 +1,5 @@
 -- `put_states::put_states` meets its contract. Assumes nothing.
 use mathlib.Core.Path.{refl}
-use Prim.Native.Nat.{◌-◌}
 use Rattle.wording.proofs.Writing.{left-length}
 use Rattle.put_states.proofs.Putting.{states-more, states-end}
 use Rattle.put_states.proofs.put_states.Goals as goal

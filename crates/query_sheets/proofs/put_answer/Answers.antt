@@ -2,8 +2,8 @@
 use Rattle.saying.proofs.Sheets.{refused-unwritten, done-written}
 use Rattle.query_sheets.proofs.put_answer.Goals as goal
 
-pub returns-then-reply-ne0 : goal.returns-then-reply-ne0
-returns-then-reply-ne0 c = search refused-unwritten
+pub returns-in_err-n : goal.returns-in_err-n
+returns-in_err-n c = search (refused-unwritten, c.in_err-n.was)
 
 pub returns : goal.returns
-returns c = search done-written
+returns c = search (done-written, c.in_ok-n.was)

@@ -1,9 +1,12 @@
 -- `random_walk::walk_formed` meets its contract. Assumes nothing.
-use Rattle.walk.proofs.Walked.{start-missing, start-found}
+use Rattle.layout.proofs.Answers.{asked-missing, asked-found}
+use Rattle.walk.specs.Walk.{walk_result}
 use Rattle.random_walk.proofs.walk_formed.Goals as goal
 
-pub returns-in-Nothing : goal.returns-in-Nothing
-returns-in-Nothing c = search start-missing
+pub returns-in_err-ok_or : goal.returns-in_err-ok_or
+unfolding walk_result
+returns-in_err-ok_or c = search (asked-missing, c.in_err-ok_or.was)
 
-pub returns-in-At : goal.returns-in-At
-returns-in-At c = search start-found
+pub returns : goal.returns
+unfolding walk_result
+returns c = search (asked-found, c.in_ok-ok_or.was)

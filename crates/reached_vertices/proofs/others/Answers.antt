@@ -1,5 +1,4 @@
 -- `reached_vertices::others` meets its contract. Assumes nothing.
-use Prim.Native.Nat.{◌-◌}
 use native.Mathlib.Omega.{arith}
 use Rattle.lookups.specs.State.{no_marks}
 use Rattle.reached_vertices.proofs.Seen.{noted-none, noted_more, noted-end}

@@ -1,5 +1,4 @@
 -- `read_states::line_end` meets its contract. Assumes nothing.
-use Prim.Native.Nat.{◌-◌}
 use Rattle.read_states.proofs.Lines.{line_first, line-feed, line_on, line-last}
 use borrow.Author.Rules.{rules}
 use Rattle.read_states.proofs.line_end.Goals as goal

@@ -9,6 +9,3 @@ use Rattle.read_states.proofs.line_end.Given as goal
 
 abbrev pub invariant-loop-i : goal.invariant-loop-i
 invariant-loop-i l = (l.p ≤ l.i) × (l.i ≤ length l.text) × (memb feed (take (l.i - l.p) (drop l.p l.text)) ≡ false)
-
-abbrev pub decreases-loop-i : goal.decreases-loop-i
-decreases-loop-i l = length l.text - l.i

@@ -1,5 +1,4 @@
 -- `read_states::read_lines` meets its contract. Assumes nothing.
-use Prim.Native.Nat.{◌-◌}
 use Rattle.state_lines.proofs.Judging.{judged-word}
 use Rattle.read_states.proofs.Noted.{noting-first, noting-length, lines-bad, noting-more, lines_end}
 use borrow.Author.Rules.{rules}

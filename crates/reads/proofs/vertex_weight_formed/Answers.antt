@@ -1,16 +1,16 @@
 -- `reads::vertex_weight_formed` meets its contract. Assumes nothing.
-use Rattle.lookups.proofs.Found.{not_found}
 use Rattle.reads.proofs.Told.{vertex-within, vertex-told}
 use Rattle.reads.specs.Reads.{vertex_weight_result}
 use borrow.Author.Rules.{rules}
+use Rattle.layout.proofs.Answers.{asked-missing, taken}
 use Rattle.reads.proofs.vertex_weight_formed.Goals as goal
 
 pub vertex_weight-requires : goal.vertex_weight-requires
-vertex_weight-requires c = (search rules, search (vertex-within, rules))
+vertex_weight-requires c = (search rules, search (vertex-within, rules, taken _ _ _ c.ok_or.ensures.value _ c.in_ok-i.was))
 
-pub returns-in-Nothing : goal.returns-in-Nothing
+pub returns-in_err-i : goal.returns-in_err-i
 unfolding vertex_weight_result
-returns-in-Nothing c = search not_found
+returns-in_err-i c = search (asked-missing, c.in_err-i.was)
 
-pub returns-in-At : goal.returns-in-At
-returns-in-At c = search vertex-told
+pub returns : goal.returns
+returns c = search (vertex-told, taken _ _ _ c.ok_or.ensures.value _ c.in_ok-i.was)

@@ -1,6 +1,5 @@
 -- `record_sheets::is_listed` meets its contract. Assumes nothing.
 use mathlib.Core.Path.{refl}
-use Prim.Native.Nat.{◌-◌}
 use Rattle.record_sheets.proofs.Records.{listed-yes, listed-on, listed-no}
 use borrow.Author.Rules.{rules}
 use Rattle.record_sheets.proofs.is_listed.Goals as goal

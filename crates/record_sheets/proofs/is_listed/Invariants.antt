@@ -1,6 +1,6 @@
 -- `record_sheets::is_listed` meets its contract. Assumes nothing.
 use mathlib.Core.Path.{◌≡◌}
-use Prim.Native.Nat.{◌≤◌, ◌-◌}
+use Prim.Native.Nat.{◌≤◌}
 use lib.ListN.{drop}
 use Rattle.lists.specs.Lists.{any}
 use Rattle.layout.specs.Content.{lists}
@@ -9,6 +9,3 @@ use Rattle.record_sheets.proofs.is_listed.Given as goal
 
 abbrev pub invariant-loop-j : goal.invariant-loop-j
 invariant-loop-j l = (l.j ≤ l.m) × (any (lists l.v) (drop l.j (read limit l.t).hyperedges) ≡ any (lists l.v) (read limit l.t).hyperedges)
-
-abbrev pub decreases-loop-j : goal.decreases-loop-j
-decreases-loop-j l = l.m - l.j

@@ -1,5 +1,4 @@
 -- `record_sheets::put_each_listing` meets its contract. Assumes nothing.
-use Prim.Native.Nat.{◌-◌}
 use Rattle.wording.proofs.Writing.{left-length}
 use Rattle.record_sheets.proofs.Lines.{left-record, left-no-record}
 use Rattle.record_sheets.proofs.Records.{listing-first}

@@ -1,6 +1,5 @@
 -- `record_sheets::put_each_tube` meets its contract. Assumes nothing.
 use mathlib.Core.Path.{refl}
-use Prim.Native.Nat.{◌-◌}
 use Rattle.wording.proofs.Writing.{left-length}
 use Rattle.record_sheets.proofs.Lines.{left-record, left-no-record}
 use borrow.Author.Rules.{rules}

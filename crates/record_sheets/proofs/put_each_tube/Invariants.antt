@@ -1,6 +1,6 @@
 -- `record_sheets::put_each_tube` meets its contract. Assumes nothing.
 use mathlib.Core.Path.{◌≡◌}
-use Prim.Native.Nat.{◌≤◌, ◌-◌}
+use Prim.Native.Nat.{◌≤◌}
 use lib.ListN.{drop}
 use Rattle.lists.specs.Lists.{flat}
 use Rattle.layout.specs.Layout.{limit, read}
@@ -10,6 +10,3 @@ use Rattle.record_sheets.proofs.put_each_tube.Given as goal
 
 abbrev pub invariant-loop-i : goal.invariant-loop-i
 invariant-loop-i l = (l.i ≤ l.n) × (write (flat (tube_line l.form l.s (read limit l.t)) (drop l.i (read limit l.t).vertices)) (page l.out l.next) ≡ write (flat (tube_line l.form l.s (read limit l.t)) (read limit l.t).vertices) (page l.initial.out l.at))
-
-abbrev pub decreases-loop-i : goal.decreases-loop-i
-decreases-loop-i l = l.n - l.i

@@ -1,6 +1,5 @@
 -- `record_sheets::put_transfers` meets its contract. Assumes nothing.
 use mathlib.Core.Path.{refl}
-use Prim.Native.Nat.{◌-◌}
 use Rattle.record_sheets.specs.Records.{transfer_lines}
 use Rattle.wording.proofs.Writing.{left-length}
 use Rattle.record_sheets.proofs.Lines.{left-record, left-no-record}

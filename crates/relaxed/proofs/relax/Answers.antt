@@ -1,6 +1,5 @@
 -- `relaxed::relax` meets its contract. Assumes nothing.
 use mathlib.Core.Path.{refl}
-use Prim.Native.Nat.{◌-◌}
 use native.Mathlib.Omega.{arith}
 use Rattle.distance.proofs.Cost.{part-first, part-more, part_end, listed-short, listed_below}
 use borrow.Author.Rules.{rules}

@@ -1,5 +1,4 @@
 -- `rename_vertex::rename_vertex` meets its contract: `Renamed` at each record. Assumes nothing.
-use Prim.Native.Nat.{◌-◌}
 use borrow.Author.Rules.{rules}
 use Rattle.rename_vertex.proofs.Renaming.{renamed-none, renamed-count, renamed-turn, renamed-end}
 use Rattle.rename_vertex.proofs.rename_vertex.Goals as goal

@@ -1,5 +1,4 @@
 -- `rename_vertex::rename_words` meets its contract: after i turns i words are read. Assumes nothing.
-use Prim.Native.Nat.{◌-◌}
 use borrow.Author.Rules.{rules}
 use Rattle.edits.proofs.Copied.{copied_none}
 use Rattle.rename_vertex.proofs.Renaming.{words_more, words-done}

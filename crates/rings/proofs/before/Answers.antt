@@ -1,5 +1,4 @@
 -- `rings::before` meets its contract. Assumes nothing.
-use Prim.Native.Nat.{◌-◌}
 use Rattle.rings.proofs.Back.{before-first, before_here, before_on, before-end}
 use borrow.Author.Rules.{rules}
 use Rattle.rings.proofs.before.Goals as goal

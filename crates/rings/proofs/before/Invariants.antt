@@ -9,6 +9,3 @@ use Rattle.rings.proofs.before.Given as goal
 
 abbrev pub invariant-loop-j : goal.invariant-loop-j
 invariant-loop-j l = (l.j ≤ l.n) × (least (leads_to (matrix l.adj) (flagged l.marks) l.y) (l.n - l.j) l.j ≡ before (matrix l.adj) l.n (flagged l.marks) l.y)
-
-abbrev pub decreases-loop-j : goal.decreases-loop-j
-decreases-loop-j l = l.n - l.j

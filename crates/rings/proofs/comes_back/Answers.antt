@@ -1,4 +1,4 @@
--- `rings::comes_back_lem` meets its contract. Assumes nothing.
+-- `rings::comes_back` meets its contract. Assumes nothing.
 use Rattle.rings.proofs.Back.{tested}
 use Rattle.rings.proofs.comes_back.Goals as goal
 

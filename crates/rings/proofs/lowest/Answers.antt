@@ -1,5 +1,4 @@
 -- `rings::lowest` meets its contract. Assumes nothing.
-use Prim.Native.Nat.{◌-◌}
 use Rattle.rings.proofs.Back.{lowest-first, lowest-here, lowest-on, lowest-end}
 use borrow.Author.Rules.{rules}
 use Rattle.rings.proofs.lowest.Goals as goal

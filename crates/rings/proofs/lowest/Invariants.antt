@@ -8,6 +8,3 @@ use Rattle.rings.proofs.lowest.Given as goal
 
 abbrev pub invariant-loop-x : goal.invariant-loop-x
 invariant-loop-x l = (l.x ≤ l.n) × (least (comes_back (matrix l.adj) l.n) (l.n - l.x) l.x ≡ lowest (matrix l.adj) l.n)
-
-abbrev pub decreases-loop-x : goal.decreases-loop-x
-decreases-loop-x l = l.n - l.x

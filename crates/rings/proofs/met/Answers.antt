@@ -1,5 +1,4 @@
 -- `rings::met` meets its contract. Assumes nothing.
-use Prim.Native.Nat.{◌-◌}
 use Rattle.rings.proofs.Passed.{met-first, met-here, met-on, met-none}
 use borrow.Author.Rules.{rules}
 use Rattle.rings.proofs.met.Goals as goal

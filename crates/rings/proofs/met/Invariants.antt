@@ -8,6 +8,3 @@ use Rattle.rings.proofs.met.Given as goal
 
 abbrev pub invariant-loop-i : goal.invariant-loop-i
 invariant-loop-i l = (l.a ≤ l.i) × (l.i ≤ 256) × (memb l.y (take (l.i - l.a) (drop l.a l.path)) ≡ false)
-
-abbrev pub decreases-loop-i : goal.decreases-loop-i
-decreases-loop-i l = 256 - l.i

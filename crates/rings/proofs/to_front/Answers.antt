@@ -1,5 +1,4 @@
 -- `rings::to_front` meets its contract. Assumes nothing.
-use Prim.Native.Nat.{◌-◌}
 use Rattle.rings.proofs.Going.{copied-first, copied_more, copied-end}
 use borrow.Author.Rules.{rules}
 use Rattle.rings.proofs.to_front.Goals as goal

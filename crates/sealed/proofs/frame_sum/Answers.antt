@@ -1,5 +1,4 @@
 -- `sealed::frame_sum` meets its contract. Assumes nothing.
-use Prim.Native.Nat.{◌-◌}
 use Rattle.reader.proofs.Digits.{summed-none, summed-more, sum-none, sum-end}
 use borrow.Author.Rules.{rules}
 use Rattle.sealed.proofs.frame_sum.Goals as goal

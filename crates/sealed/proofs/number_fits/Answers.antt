@@ -1,4 +1,4 @@
--- `sealed::number_fits_lem` meets its contract. Assumes nothing.
+-- `sealed::number_fits` meets its contract. Assumes nothing.
 use Rattle.reader.proofs.Fits.{number-low, number-rest}
 use Rattle.sealed.proofs.number_fits.Goals as goal
 

@@ -1,15 +1,7 @@
 -- `sealed::stands_at` meets its contract. Assumes nothing.
-use Prim.Native.Nat.{◌-◌}
-use borrow.Author.Count.{below_more}
-use Rattle.reader.proofs.Digits.{compared-no, compared-end}
-use borrow.Author.Rules.{rules}
+use mathlib.Core.Path.{◌∙◌}
+use Rattle.reader.proofs.Digits.{compared-at}
 use Rattle.sealed.proofs.stands_at.Goals as goal
 
-pub returns-then-text-at : goal.returns-then-text-at
-returns-then-text-at c = search compared-no
-
-pub loop-i-preserved : goal.loop-i-preserved
-loop-i-preserved c = (search rules, below_more _ _ c.loop-i.invariant.1 (search rules))
-
 pub returns : goal.returns
-returns c = search compared-end
+returns c = c.eq.ensures ∙ compared-at _ _ _

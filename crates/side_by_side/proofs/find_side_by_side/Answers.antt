@@ -1,6 +1,5 @@
 -- `side_by_side::find_side_by_side` meets its contract: what is left of the search is the whole of it. Assumes nothing.
 use mathlib.Core.Path.{refl}
-use Prim.Native.Nat.{◌-◌}
 use Rattle.edits.specs.Results.{first_passing}
 use Rattle.edits.proofs.Passing.{passing-on, passing-here, passing-none}
 use borrow.Author.Rules.{rules}

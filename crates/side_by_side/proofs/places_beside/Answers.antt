@@ -1,6 +1,5 @@
 -- `side_by_side::places_beside` meets its contract. Assumes nothing.
 use mathlib.Core.Path.{sym, ◌∙◌}
-use Prim.Native.Nat.{◌-◌}
 use native.Mathlib.Omega.{arith}
 use borrow.Author.Rules.{rules}
 use Rattle.lookups.proofs.Places.{counted_none, counted-yes, counted-no, counted-end}
@@ -18,4 +17,4 @@ loop-i-preserved c =
     )
 
 pub returns : goal.returns
-returns c = search counted-end
+returns c = counted-end c.loop-i.invariant.1 (omega arith)

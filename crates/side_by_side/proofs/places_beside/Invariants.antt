@@ -1,5 +1,5 @@
 -- `side_by_side::places_beside` meets its contract. Assumes nothing.
-use Prim.Native.Nat.{◌≤◌, ◌-◌}
+use Prim.Native.Nat.{◌≤◌}
 use lib.ListN.{length}
 use Rattle.side_by_side.specs.Places.{joins}
 use Rattle.lookups.proofs.Places.{Counted}
@@ -7,6 +7,3 @@ use Rattle.side_by_side.proofs.places_beside.Given as goal
 
 abbrev pub invariant-loop-i : goal.invariant-loop-i
 invariant-loop-i l = (l.i ≤ length l.ms) × Counted (joins l.v l.w) l.ms l.i l.n
-
-abbrev pub decreases-loop-i : goal.decreases-loop-i
-decreases-loop-i l = length l.ms - l.i

@@ -1,6 +1,5 @@
 -- `sift_vertices::sift_vertices` meets its contract. Assumes nothing.
 use mathlib.Core.Path.{◌∙◌}
-use Prim.Native.Nat.{◌-◌}
 use lib.ListN.{length-set}
 use Rattle.sift_vertices.proofs.Turns.{vertices-none, vertices-done}
 use borrow.Author.Rules.{rules}

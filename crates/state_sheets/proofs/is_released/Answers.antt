@@ -2,8 +2,8 @@
 use Rattle.state_sheets.proofs.Signed.{none-released, here-released}
 use Rattle.state_sheets.proofs.is_released.Goals as goal
 
-pub returns-in-Nothing : goal.returns-in-Nothing
-returns-in-Nothing c = search none-released
+pub returns-in-None : goal.returns-in-None
+returns-in-None c = search none-released
 
-pub returns-in-At : goal.returns-in-At
-returns-in-At c = search here-released
+pub returns-in-Some : goal.returns-in-Some
+returns-in-Some c = search here-released

@@ -1,6 +1,5 @@
 -- `state_sheets::put_releases` meets its contract. Assumes nothing.
 use mathlib.Core.Path.{refl}
-use Prim.Native.Nat.{◌-◌}
 use Rattle.wording.proofs.Writing.{left-text, left-no-text, left-length}
 use Rattle.state_sheets.specs.Signed.{releases_said}
 use borrow.Author.Rules.{rules}

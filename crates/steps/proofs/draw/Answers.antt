@@ -1,5 +1,4 @@
 -- `steps::draw` meets its contract: the matrix after the first j hyperedges. Assumes nothing.
-use Prim.Native.Nat.{◌-◌}
 use borrow.Author.Rules.{rules}
 use Rattle.steps.proofs.Drawing.{drawn-end}
 use Rattle.steps.proofs.draw.Goals as goal

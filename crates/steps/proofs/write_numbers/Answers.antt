@@ -1,6 +1,5 @@
 -- `steps::write_numbers` meets its contract: `Wrote` at each place. Assumes nothing.
 use mathlib.Core.Path.{refl}
-use Prim.Native.Nat.{◌-◌}
 use native.Mathlib.Omega.{arith}
 use borrow.Author.Rules.{rules}
 use Rattle.steps.proofs.Numbers.{ordered_at, wrote_none, wrote-more, wrote-end, number_at}

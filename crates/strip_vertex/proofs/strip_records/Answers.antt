@@ -1,6 +1,5 @@
 -- `strip_vertex::strip_records` meets its contract: `Stripped` at each record. Assumes nothing.
 use mathlib.Core.Path.{◌≡◌}
-use Prim.Native.Nat.{◌-◌}
 use native.Mathlib.Omega.{arith}
 use borrow.Author.Rules.{rules}
 use Rattle.layout.specs.Layout.{limit}

@@ -7,7 +7,6 @@ use Rattle.graph.proofs.Held.{held-as}
 use Rattle.graph.specs.Bfs.{spread}
 use Rattle.graph.specs.Reach.{matrix}
 use mathlib.Core.Path.{sym, ap, ◌∙◌}
-use Prim.Native.Nat.{◌-◌}
 use native.Mathlib.Nat.{sub-zero}
 use native.Mathlib.Omega.{arith}
 use Rattle.strong.proofs.expand.Goals as goal
@@ -21,12 +20,6 @@ loop-j-init c = (omega arith, c.requires.2, rw sub-zero)
 
 pub touch-end-requires : goal.touch-end-requires
 touch-end-requires c = (omega arith, omega arith, omega arith, c.loop-j.invariant.1)
-
-pub overflow_add-j : goal.overflow_add-j
-overflow_add-j c = omega arith
-
-pub loop-j-smaller : goal.loop-j-smaller
-loop-j-smaller c = omega arith
 
 pub loop-j-preserved : goal.loop-j-preserved
 loop-j-preserved c = (

@@ -14,6 +14,3 @@ abbrev pub invariant-loop-j : goal.invariant-loop-j
 invariant-loop-j l =
     (l.j ≤ l.n) × Held l.n l.marks l.order l.end (take l.end l.order)
     × (spread (inside (matrix l.adj) (flagged l.free)) l.x (l.n - l.j) l.j (take l.end l.order) ≡ spread (inside (matrix l.adj) (flagged l.free)) l.x l.n 0 (take l.tail l.initial.order))
-
-abbrev pub decreases-loop-j : goal.decreases-loop-j
-decreases-loop-j l = l.n - l.j

@@ -1,6 +1,6 @@
 -- `strong::part_strong` meets its contract. Assumes nothing.
 use mathlib.Core.List.{reverse}
-use Prim.Native.Nat.{◌≤◌, ◌-◌}
+use Prim.Native.Nat.{◌≤◌}
 use lib.ListN.{take}
 use Rattle.graph.specs.Reach.{matrix}
 use Rattle.components.specs.Classes.{roots_of}
@@ -10,6 +10,3 @@ use Rattle.strong.proofs.part_strong.Given as goal
 
 abbrev pub invariant-loop-k : goal.invariant-loop-k
 invariant-loop-k l = (l.k ≤ l.t) × Parting (mutually_reached (matrix l.adj) l.n) l.n (roots_of (mutually_reached (matrix l.adj) l.n) (latest_first (matrix l.adj) l.n)) (reverse (take l.k l.order)) l.ids l.c
-
-abbrev pub decreases-loop-k : goal.decreases-loop-k
-decreases-loop-k l = l.k

@@ -1,5 +1,4 @@
 -- `text_lines::line_end` meets its contract: the bytes that are passed are of the line. Assumes nothing.
-use Prim.Native.Nat.{◌-◌}
 use Rattle.text_lines.proofs.Lines.{runs-first, runs-byte, runs-feed, runs-end}
 use Rattle.text_lines.proofs.line_end.Goals as goal
 

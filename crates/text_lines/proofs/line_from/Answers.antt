@@ -1,5 +1,4 @@
 -- `text_lines::line_from` meets its contract: what stands behind the lines that are left is what stands behind k lines. Assumes nothing.
-use Prim.Native.Nat.{◌-◌}
 use Rattle.text_lines.proofs.Lines.{passed_first, passed-line, passed-all}
 use Rattle.text_lines.proofs.line_from.Goals as goal
 

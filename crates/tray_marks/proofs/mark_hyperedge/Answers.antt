@@ -5,8 +5,8 @@ use Rattle.tray_marks.proofs.mark_hyperedge.Goals as goal
 pub bounds-marked-k : goal.bounds-marked-k
 bounds-marked-k c = search hyperedge-in
 
-pub returns-in-Nothing : goal.returns-in-Nothing
-returns-in-Nothing c = search hyperedge-missing
+pub returns-in_default : goal.returns-in_default
+returns-in_default c = search hyperedge-missing
 
-pub returns-in-At : goal.returns-in-At
-returns-in-At c = search hyperedge-there
+pub returns : goal.returns
+returns c = search hyperedge-there

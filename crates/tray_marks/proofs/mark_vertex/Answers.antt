@@ -6,8 +6,8 @@ use Rattle.tray_marks.proofs.mark_vertex.Goals as goal
 pub bounds-marked-k : goal.bounds-marked-k
 bounds-marked-k c = search marked-in
 
-pub returns-in-Nothing : goal.returns-in-Nothing
-returns-in-Nothing c = search vertex-missing
+pub returns-in_default : goal.returns-in_default
+returns-in_default c = search vertex-missing
 
-pub returns-in-At : goal.returns-in-At
-returns-in-At c = search vertex-there
+pub returns : goal.returns
+returns c = search vertex-there

@@ -1,5 +1,4 @@
 -- `vertex_lines::vertices_from` meets its contract. Assumes nothing.
-use Prim.Native.Nat.{◌-◌}
 use Rattle.reader.proofs.Records.{vertex-framed, vertex-number-room}
 use Rattle.reader.proofs.VertexLines.{vertices-none, vertices-stop, vertices-more, vertices-end}
 use borrow.Author.Rules.{rules}

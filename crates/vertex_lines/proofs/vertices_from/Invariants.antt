@@ -1,10 +1,6 @@
 -- `vertex_lines::vertices_from` meets its contract. Assumes nothing.
-use Prim.Native.Nat.{◌-◌}
 use Rattle.reader.proofs.VertexLines.{VerticesSo}
 use Rattle.vertex_lines.proofs.vertices_from.Given as goal
 
 abbrev pub invariant-loop-i : goal.invariant-loop-i
 invariant-loop-i l = VerticesSo l.text l.initial.words l.words l.low l.at l.to l.i
-
-abbrev pub decreases-loop-i : goal.decreases-loop-i
-decreases-loop-i l = l.n - l.i

@@ -1,6 +1,5 @@
 -- `vertex_weights::has_weight` meets its contract. Assumes nothing.
 use mathlib.Core.Path.{refl}
-use Prim.Native.Nat.{◌-◌}
 use native.Mathlib.Omega.{arith}
 use Rattle.lookups.specs.Lookups.{has_vertex_weighing}
 use Rattle.lookups.proofs.Weights.{weight-on, weight-here, weight-none}

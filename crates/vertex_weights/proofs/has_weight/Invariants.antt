@@ -1,6 +1,6 @@
 -- `vertex_weights::has_weight` meets its contract. Assumes nothing.
 use mathlib.Core.Path.{◌≡◌}
-use Prim.Native.Nat.{◌≤◌, ◌-◌}
+use Prim.Native.Nat.{◌≤◌}
 use lib.ListN.{drop}
 use Rattle.lists.specs.Lists.{any}
 use Rattle.layout.specs.Layout.{limit, read_vertices, read}
@@ -9,6 +9,3 @@ use Rattle.vertex_weights.proofs.has_weight.Given as goal
 
 abbrev pub invariant-loop-k : goal.invariant-loop-k
 invariant-loop-k l = (l.k ≤ l.n) × (any (weighs l.weight) (drop l.k (read_vertices l.t)) ≡ has_vertex_weighing l.weight (read limit l.t))
-
-abbrev pub decreases-loop-k : goal.decreases-loop-k
-decreases-loop-k l = l.n - l.k

@@ -1,6 +1,5 @@
 -- `vertex_weights::mark_weighing` meets its contract. Assumes nothing.
 use mathlib.Core.Bool.{Bool, false}
-use Prim.Native.Nat.{◌-◌}
 use native.Mathlib.Omega.{arith}
 use lib.ListN.{length-replicate}
 use Rattle.layout.specs.Layout.{vertex_limit}

@@ -1,10 +1,7 @@
 -- `vertex_weights::mark_weighing` meets its contract. Assumes nothing.
-use Prim.Native.Nat.{◌≤◌, ◌-◌}
+use Prim.Native.Nat.{◌≤◌}
 use Rattle.lookups.proofs.Weights.{Weighed}
 use Rattle.vertex_weights.proofs.mark_weighing.Given as goal
 
 abbrev pub invariant-loop-k : goal.invariant-loop-k
 invariant-loop-k l = (l.k ≤ l.n) × Weighed l.weight l.t l.k l.marks
-
-abbrev pub decreases-loop-k : goal.decreases-loop-k
-decreases-loop-k l = l.n - l.k

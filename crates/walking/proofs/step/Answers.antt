@@ -6,5 +6,5 @@ use Rattle.walking.proofs.step.Goals as goal
 pub step_from-requires : goal.step_from-requires
 step_from-requires c = record { formed = search rules; t_value = (search found_here, search rules) }
 
-pub returns-in-Nothing : goal.returns-in-Nothing
-returns-in-Nothing c = search move-dead
+pub returns-in_default : goal.returns-in_default
+returns-in_default c = search move-dead

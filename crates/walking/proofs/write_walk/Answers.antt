@@ -1,5 +1,4 @@
 -- `walking::write_walk` meets its contract. Assumes nothing.
-use Prim.Native.Nat.{◌-◌}
 use Rattle.walk.proofs.Walked.{wrote_none, wrote-more, wrote-end}
 use borrow.Author.Rules.{rules}
 use Rattle.walking.proofs.write_walk.Goals as goal

@@ -6,8 +6,8 @@ use Rattle.withdraw_marked.proofs.is_spared.Goals as goal
 pub bounds-vertices-k : goal.bounds-vertices-k
 bounds-vertices-k c = search marked-in
 
-pub returns-in-Nothing : goal.returns-in-Nothing
-returns-in-Nothing c = search spared-none
+pub returns-in-None : goal.returns-in-None
+returns-in-None c = search spared-none
 
-pub returns-in-At : goal.returns-in-At
-returns-in-At c = search spared-at
+pub returns-in-Some : goal.returns-in-Some
+returns-in-Some c = search spared-at

@@ -1,6 +1,6 @@
 -- `withdraw_marked::keep_spared` meets its contract: `Kept` at each word. Assumes nothing.
 use mathlib.Core.Path.{refl, sym, ◌∙◌}
-use Prim.Native.Nat.{◌<◌, ◌-◌}
+use Prim.Native.Nat.{◌<◌}
 use lib.ListN.{length}
 use native.Mathlib.Omega.{arith}
 use Rattle.edits.proofs.KeptWords.{kept-none, kept-yes, kept-no, kept-end}

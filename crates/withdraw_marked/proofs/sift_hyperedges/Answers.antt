@@ -1,6 +1,5 @@
 -- `withdraw_marked::sift_hyperedges` meets its contract. Assumes nothing.
 use mathlib.Core.Path.{sym, ap, ◌∙◌}
-use Prim.Native.Nat.{◌-◌}
 use lib.ListN.{length, length-set}
 use native.Mathlib.Omega.{arith}
 use Rattle.withdraw_marked.proofs.Sifting.{hyperedges-none, hyperedges-done}

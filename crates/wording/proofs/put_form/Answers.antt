@@ -1,6 +1,5 @@
 -- `wording::put_form` meets its contract: what is left of the form, filled in and written on the page as it is, gives the page with all of it. Assumes nothing.
 use mathlib.Core.Path.{refl}
-use Prim.Native.Nat.{◌-◌}
 use Rattle.wording.specs.Forms.{filled}
 use Rattle.wording.proofs.Writing.{left-text, left-no-text, left-length}
 use Rattle.wording.proofs.put_form.Goals as goal

@@ -1,6 +1,5 @@
 -- `wording::put_text` meets its contract: what is left of the text, written on the page as it is, gives the page with all of it. Assumes nothing.
 use mathlib.Core.Path.{refl}
-use Prim.Native.Nat.{◌-◌}
 use borrow.Author.Rules.{rules}
 use Rattle.wording.proofs.Writing.{left-byte, left-none, left-length}
 use Rattle.wording.proofs.put_text.Goals as goal

@@ -1,6 +1,5 @@
 -- `wording_lists::put_more_lists` meets its contract: what is left, written on the page as it is, gives the page with all of it. Assumes nothing.
 use mathlib.Core.Path.{refl}
-use Prim.Native.Nat.{◌-◌}
 use Rattle.wording.proofs.Writing.{left-length}
 use Rattle.wording_lists.proofs.Listed.{left-list, left-no-list}
 use Rattle.wording_lists.proofs.put_more_lists.Goals as goal

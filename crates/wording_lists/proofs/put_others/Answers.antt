@@ -1,6 +1,5 @@
 -- `wording_lists::put_others` meets its contract: what is left, written on the page as it is, gives the page with all of it. Assumes nothing.
 use mathlib.Core.Path.{refl}
-use Prim.Native.Nat.{◌-◌}
 use Rattle.wording.proofs.Writing.{left-text, left-no-text, left-length}
 use Rattle.wording_lists.proofs.put_others.Goals as goal
 

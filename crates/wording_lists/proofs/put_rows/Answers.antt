@@ -1,6 +1,5 @@
 -- `wording_lists::put_rows` meets its contract: what is left, written on the page as it is, gives the page with all of it. Assumes nothing.
 use mathlib.Core.Path.{refl}
-use Prim.Native.Nat.{◌-◌}
 use native.Mathlib.Nat.{div-le_self}
 use Rattle.wording.specs.Forms.{rows}
 use Rattle.wording.proofs.Writing.{left-number, left-no-number, left-length}

@@ -1,5 +1,4 @@
 -- `write_frames::hyperedges_length` meets its contract. Assumes nothing.
-use Prim.Native.Nat.{◌-◌}
 use Rattle.layout.specs.Layout.{limit}
 use Rattle.frames.proofs.Text.{length_none, length_more, length-end}
 use borrow.Author.Rules.{rules}

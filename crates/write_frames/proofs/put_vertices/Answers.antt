@@ -1,6 +1,5 @@
 -- `write_frames::put_vertices` meets its contract. Assumes nothing.
 use mathlib.Core.Path.{refl}
-use Prim.Native.Nat.{◌-◌}
 use Rattle.frames.proofs.Text.{vertices-none, vertices-more, vertices-end}
 use borrow.Author.Rules.{rules}
 use Rattle.write_frames.proofs.put_vertices.Goals as goal

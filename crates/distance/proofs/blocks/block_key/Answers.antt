@@ -1,5 +1,4 @@
 -- `distance::blocks::block_key` meets its contract: `Block` of the numbers before each. Assumes nothing.
-use Prim.Native.Nat.{◌-◌}
 use Rattle.distance.proofs.Keys.{block-first, block_more, block-end}
 use borrow.Author.Rules.{rules}
 use Rattle.distance.proofs.blocks.block_key.Goals as goal

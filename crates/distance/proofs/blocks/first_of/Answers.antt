@@ -1,6 +1,5 @@
 -- `distance::blocks::first_of` meets its contract: what is left of the search is the whole. Assumes nothing.
 use mathlib.Core.Path.{refl}
-use Prim.Native.Nat.{◌-◌}
 use Rattle.distance.proofs.Keys.{first-here, first_step, first-end}
 use borrow.Author.Rules.{rules}
 use Rattle.distance.proofs.blocks.first_of.Goals as goal

@@ -7,6 +7,3 @@ use Rattle.distance.proofs.blocks.first_of.Given as goal
 
 abbrev pub invariant-loop-v : goal.invariant-loop-v
 invariant-loop-v l = (l.v ≤ l.n) × (least (has_key l.m l.d l.key) (l.n - l.v) l.v ≡ least (has_key l.m l.d l.key) (l.n - l.from) l.from)
-
-abbrev pub decreases-loop-v : goal.decreases-loop-v
-decreases-loop-v l = l.n - l.v

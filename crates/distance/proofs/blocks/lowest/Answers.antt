@@ -1,5 +1,4 @@
 -- `distance::blocks::lowest` meets its contract: `Lowest` at each block. Assumes nothing.
-use Prim.Native.Nat.{◌-◌}
 use Rattle.distance.proofs.Keys.{lowest-first, lowest-more, lowest-end}
 use borrow.Author.Rules.{rules}
 use Rattle.distance.proofs.blocks.lowest.Goals as goal
