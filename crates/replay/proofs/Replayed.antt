@@ -14,7 +14,7 @@ use Rattle.replay.specs.declared.Extent.{Extent}
 use Rattle.replay.specs.declared.Held.{Held}
 use Rattle.replay.specs.Records.{lost, whole, four_read, eight_read, word_read, word_number, byte_read, extent_at, list_at}
 use Rattle.replay.specs.Judging.{AfterCount, counted_in, compared_in, answer_at, after_count, counted_at, sum_of, summed_at}
-use Rattle.replay.specs.Replayed.{LeftBy, left_by, compared, edited, vertex_added, hyperedge_added, hyperedge_updated, vertex_removed, hyperedge_removed, vertices_merged, table_summed, end_at, record_at}
+use Rattle.replay.specs.Replayed.{left_by, compared, edited, vertex_added, hyperedge_added, hyperedge_updated, vertex_removed, hyperedge_removed, vertices_merged, table_summed, end_at, record_at}
 
 -- the words of a list, taken from the room that they were read into
 list-taken : (s : List ℕ) (p : ℕ) (d : List ℕ) → take (extent_at s p (length d)).count (over (list_at s p (length d)) d) ≡ list_at s p (length d)
@@ -98,9 +98,6 @@ module _ (s : List ℕ) (p : ℕ) (tally : List ℕ) (n : Value) (m sum : ℕ) (
         end_whole o = rw (here, not-false x.same q, eq-eqb x.at (length s) k, ← e, ← l, eq-eqb n.value c o)
 
 -- ---- by its kind
-
-pub of-kind : (s : List ℕ) (kind p : ℕ) (t tally : List ℕ) (l : LeftBy) (k : ℕ) → kind ≡ k → l ≡ record_at s k p t tally → l ≡ record_at s kind p t tally
-of-kind s kind p t tally l k h e = rw h e
 
 pub last-kind : (s : List ℕ) (kind p : ℕ) (t tally : List ℕ) (r : ℕ) → kind ≡ 255 → r ≡ end_at s p tally → left_by r t tally ≡ record_at s kind p t tally
 unfolding record_at

@@ -2,44 +2,93 @@
 #![tactic(auto)]
 
 use layout::VertexIndex;
-use replay::tally;
+use replay_judge::{answer, listing};
 use std::io;
 
-// The place of each function in the tally, behind those of the edits.
-const GET_ADJACENT_VERTICES_FROM: usize = 8;
+// The functions that are asked, each by its place in the tally, behind those of the edits.
+#[derive(Clone, Copy, PartialEq, Eq, Debug)]
+enum Lookup {
+    GetAdjacentVerticesFrom = 8,
+    GetAdjacentVerticesTo,
+    GetFullAdjacentVerticesFrom,
+    GetFullAdjacentVerticesTo,
+    GetVertexDegreeIn,
+    GetVertexDegreeOut,
+    GetFullVertexHyperedges,
+    GetVertexNeighborhood,
+    GetHyperedgesConnecting,
+    FindHyperedgesByWeight,
+    ContainsVertex,
+    GetVertexIndex,
+    GetHyperedgesIntersections,
+}
 
-const GET_ADJACENT_VERTICES_TO: usize = 9;
+const NAMES: [(&[u8], usize); 13] = [
+    (
+        b"get_adjacent_vertices_from",
+        Lookup::GetAdjacentVerticesFrom as usize,
+    ),
+    (
+        b"get_adjacent_vertices_to",
+        Lookup::GetAdjacentVerticesTo as usize,
+    ),
+    (
+        b"get_full_adjacent_vertices_from",
+        Lookup::GetFullAdjacentVerticesFrom as usize,
+    ),
+    (
+        b"get_full_adjacent_vertices_to",
+        Lookup::GetFullAdjacentVerticesTo as usize,
+    ),
+    (b"get_vertex_degree_in", Lookup::GetVertexDegreeIn as usize),
+    (
+        b"get_vertex_degree_out",
+        Lookup::GetVertexDegreeOut as usize,
+    ),
+    (
+        b"get_full_vertex_hyperedges",
+        Lookup::GetFullVertexHyperedges as usize,
+    ),
+    (
+        b"get_vertex_neighborhood",
+        Lookup::GetVertexNeighborhood as usize,
+    ),
+    (
+        b"get_hyperedges_connecting",
+        Lookup::GetHyperedgesConnecting as usize,
+    ),
+    (
+        b"find_hyperedges_by_weight",
+        Lookup::FindHyperedgesByWeight as usize,
+    ),
+    (b"contains_vertex", Lookup::ContainsVertex as usize),
+    (b"get_vertex_index", Lookup::GetVertexIndex as usize),
+    (
+        b"get_hyperedges_intersections",
+        Lookup::GetHyperedgesIntersections as usize,
+    ),
+];
 
-const GET_FULL_ADJACENT_VERTICES_FROM: usize = 10;
+// What a record asks, by its first byte: something of a vertex, of two vertices, of a weight, of a list of hyperedges.
+#[derive(Clone, Copy, PartialEq, Eq, Debug)]
+enum Kind {
+    OfVertex,
+    OfPair,
+    OfWeight,
+    OfHyperedges,
+}
 
-const GET_FULL_ADJACENT_VERTICES_TO: usize = 11;
-
-const GET_VERTEX_DEGREE_IN: usize = 12;
-
-const GET_VERTEX_DEGREE_OUT: usize = 13;
-
-const GET_FULL_VERTEX_HYPEREDGES: usize = 14;
-
-const GET_VERTEX_NEIGHBORHOOD: usize = 15;
-
-const GET_HYPEREDGES_CONNECTING: usize = 16;
-
-const FIND_HYPEREDGES_BY_WEIGHT: usize = 17;
-
-const CONTAINS_VERTEX: usize = 18;
-
-const GET_VERTEX_INDEX: usize = 19;
-
-const GET_HYPEREDGES_INTERSECTIONS: usize = 20;
-
-// The kinds of the records, by their first byte: what is asked of a vertex, of two vertices, of a weight, of a list of hyperedges.
-const OF_VERTEX: u32 = 16;
-
-const OF_PAIR: u32 = 17;
-
-const OF_WEIGHT: u32 = 18;
-
-const OF_HYPEREDGES: u32 = 19;
+impl Kind {
+    fn of(byte: u32) -> Option<Self> {
+        match byte {
+            16 => Some(Kind::OfVertex),
+            17 => Some(Kind::OfPair),
+            18 => Some(Kind::OfWeight),
+            19 => Some(Kind::OfHyperedges),
+            _ => None,
+        }
+    }
+}
 
 fn adjacent(
     s: &[u8],
@@ -50,9 +99,16 @@ fn adjacent(
     tally: &mut [u32],
 ) -> usize {
     let a = adjacent::get_adjacent_vertices_from(t, v, out);
-    let b = replay_judge::listing(s, at, a, out, GET_ADJACENT_VERTICES_FROM, tally);
+    let b = listing(
+        s,
+        at,
+        a,
+        out,
+        Lookup::GetAdjacentVerticesFrom as usize,
+        tally,
+    );
     let c = adjacent::get_adjacent_vertices_to(t, v, out);
-    replay_judge::listing(s, b, c, out, GET_ADJACENT_VERTICES_TO, tally)
+    listing(s, b, c, out, Lookup::GetAdjacentVerticesTo as usize, tally)
 }
 
 fn full_adjacent(
@@ -64,9 +120,23 @@ fn full_adjacent(
     tally: &mut [u32],
 ) -> usize {
     let a = full_adjacent::get_full_adjacent_vertices_from(t, v, out);
-    let b = replay_judge::listing(s, at, a, out, GET_FULL_ADJACENT_VERTICES_FROM, tally);
+    let b = listing(
+        s,
+        at,
+        a,
+        out,
+        Lookup::GetFullAdjacentVerticesFrom as usize,
+        tally,
+    );
     let c = full_adjacent::get_full_adjacent_vertices_to(t, v, out);
-    replay_judge::listing(s, b, c, out, GET_FULL_ADJACENT_VERTICES_TO, tally)
+    listing(
+        s,
+        b,
+        c,
+        out,
+        Lookup::GetFullAdjacentVerticesTo as usize,
+        tally,
+    )
 }
 
 fn around(
@@ -77,24 +147,31 @@ fn around(
     out: &mut [u32],
     tally: &mut [u32],
 ) -> usize {
-    let b = replay_judge::answer(
+    let b = answer(
         s,
         at,
         degrees::get_vertex_degree_in(t, v),
-        GET_VERTEX_DEGREE_IN,
+        Lookup::GetVertexDegreeIn as usize,
         tally,
     );
-    let d = replay_judge::answer(
+    let d = answer(
         s,
         b,
         degrees::get_vertex_degree_out(t, v),
-        GET_VERTEX_DEGREE_OUT,
+        Lookup::GetVertexDegreeOut as usize,
         tally,
     );
     let e = hyperedge_listings::get_full_vertex_hyperedges(t, v, out);
-    let f = replay_rows::listing(s, d, e, out, GET_FULL_VERTEX_HYPEREDGES, tally);
+    let f = replay_rows::listing(
+        s,
+        d,
+        e,
+        out,
+        Lookup::GetFullVertexHyperedges as usize,
+        tally,
+    );
     let g = adjacent::get_vertex_neighborhood(t, v, out);
-    replay_judge::listing(s, f, g, out, GET_VERTEX_NEIGHBORHOOD, tally)
+    listing(s, f, g, out, Lookup::GetVertexNeighborhood as usize, tally)
 }
 
 fn of_vertex(s: &[u8], at: usize, t: &[u32], out: &mut [u32], tally: &mut [u32]) -> usize {
@@ -113,22 +190,36 @@ fn of_pair(s: &[u8], at: usize, t: &[u32], out: &mut [u32], tally: &mut [u32]) -
         VertexIndex(y.value),
         out,
     );
-    replay_judge::listing(s, y.at, a, out, GET_HYPEREDGES_CONNECTING, tally)
+    listing(
+        s,
+        y.at,
+        a,
+        out,
+        Lookup::GetHyperedgesConnecting as usize,
+        tally,
+    )
 }
 
 fn of_weight(s: &[u8], at: usize, t: &[u32], out: &mut [u32], tally: &mut [u32]) -> usize {
     let w = replay_reading::word(s, at);
     let a = hyperedge_listings::find_hyperedges_by_weight(t, w.value, out);
-    let b = replay_judge::listing(s, w.at, a, out, FIND_HYPEREDGES_BY_WEIGHT, tally);
-    let d = replay_judge::answer(
+    let b = listing(
+        s,
+        w.at,
+        a,
+        out,
+        Lookup::FindHyperedgesByWeight as usize,
+        tally,
+    );
+    let d = answer(
         s,
         b,
         vertex_weights::contains_vertex(t, w.value),
-        CONTAINS_VERTEX,
+        Lookup::ContainsVertex as usize,
         tally,
     );
     let e = vertex_weights::get_vertex_index(t, w.value, out);
-    replay_judge::listing(s, d, e, out, GET_VERTEX_INDEX, tally)
+    listing(s, d, e, out, Lookup::GetVertexIndex as usize, tally)
 }
 
 fn of_hyperedges(s: &[u8], at: usize, t: &[u32], out: &mut [u32], tally: &mut [u32]) -> usize {
@@ -136,108 +227,37 @@ fn of_hyperedges(s: &[u8], at: usize, t: &[u32], out: &mut [u32], tally: &mut [u
     let l = replay_reading::list(s, at, &mut hyperedges);
     let n = l.count;
     let a = intersections::get_hyperedges_intersections(t, &hyperedges[..n], out);
-    replay_judge::listing(s, l.at, a, out, GET_HYPEREDGES_INTERSECTIONS, tally)
+    listing(
+        s,
+        l.at,
+        a,
+        out,
+        Lookup::GetHyperedgesIntersections as usize,
+        tally,
+    )
 }
 
-// The record at `at`, and the place after it.
-fn record(s: &[u8], at: usize, t: &mut [u32], out: &mut [u32], tally: &mut [u32]) -> usize {
-    let first = replay_reading::byte(s, at);
-    let kind = first.value;
-    match kind {
-        OF_VERTEX => of_vertex(s, first.at, t, out, tally),
-        OF_PAIR => of_pair(s, first.at, t, out, tally),
-        OF_WEIGHT => of_weight(s, first.at, t, out, tally),
-        OF_HYPEREDGES => of_hyperedges(s, first.at, t, out, tally),
-        _ => replay_tables::record(s, kind, first.at, t, tally),
-    }
-}
-
-// Every record has a byte, so there are no more records than bytes.
-fn records(s: &[u8], t: &mut [u32], out: &mut [u32], tally: &mut [u32]) -> usize {
-    let mut at = 0;
-    for _ in 0..s.len() {
-        if at >= s.len() {
-            break;
-        }
-        at = record(s, at, t, out, tally);
-    }
-    at
-}
-
-fn lines(rt: &impl Print, tally: &[u32]) -> io::Result<()> {
-    replay_tables::lines(rt, tally)?;
-    tally::line(
-        rt,
-        b"get_adjacent_vertices_from",
-        GET_ADJACENT_VERTICES_FROM,
-        tally,
-    )?;
-    tally::line(
-        rt,
-        b"get_adjacent_vertices_to",
-        GET_ADJACENT_VERTICES_TO,
-        tally,
-    )?;
-    tally::line(
-        rt,
-        b"get_full_adjacent_vertices_from",
-        GET_FULL_ADJACENT_VERTICES_FROM,
-        tally,
-    )?;
-    tally::line(
-        rt,
-        b"get_full_adjacent_vertices_to",
-        GET_FULL_ADJACENT_VERTICES_TO,
-        tally,
-    )?;
-    tally::line(rt, b"get_vertex_degree_in", GET_VERTEX_DEGREE_IN, tally)?;
-    tally::line(rt, b"get_vertex_degree_out", GET_VERTEX_DEGREE_OUT, tally)?;
-    tally::line(
-        rt,
-        b"get_full_vertex_hyperedges",
-        GET_FULL_VERTEX_HYPEREDGES,
-        tally,
-    )?;
-    tally::line(
-        rt,
-        b"get_vertex_neighborhood",
-        GET_VERTEX_NEIGHBORHOOD,
-        tally,
-    )?;
-    tally::line(
-        rt,
-        b"get_hyperedges_connecting",
-        GET_HYPEREDGES_CONNECTING,
-        tally,
-    )?;
-    tally::line(
-        rt,
-        b"find_hyperedges_by_weight",
-        FIND_HYPEREDGES_BY_WEIGHT,
-        tally,
-    )?;
-    tally::line(rt, b"contains_vertex", CONTAINS_VERTEX, tally)?;
-    tally::line(rt, b"get_vertex_index", GET_VERTEX_INDEX, tally)?;
-    tally::line(
-        rt,
-        b"get_hyperedges_intersections",
-        GET_HYPEREDGES_INTERSECTIONS,
-        tally,
-    )?;
-    tally::all(rt, tally)
-}
-
-fn run(rt: &impl Print, s: &[u8]) -> io::Result<()> {
-    let mut t = [0u32; layout::SIZE];
-    let mut out = [0u32; 8192];
-    let mut tally = [0u32; 64];
-    let end = records(s, &mut t, &mut out, &mut tally);
-    lines(rt, &tally)?;
-    replay_tables::say_end(rt, end)
+// The record of a kind that is the program's own, whose rest stands at `at`, and the place after it; none for another kind.
+fn own(
+    s: &[u8],
+    kind: u32,
+    at: usize,
+    t: &[u32],
+    out: &mut [u32],
+    tally: &mut [u32],
+) -> Option<usize> {
+    let after = match Kind::of(kind)? {
+        Kind::OfVertex => of_vertex(s, at, t, out, tally),
+        Kind::OfPair => of_pair(s, at, t, out, tally),
+        Kind::OfWeight => of_weight(s, at, t, out, tally),
+        Kind::OfHyperedges => of_hyperedges(s, at, t, out, tally),
+    };
+    Some(after)
 }
 
 fn main(rt: HostRuntime) -> io::Result<()> {
-    let mut bytes = [0u8; 262144];
-    let n = replay_reading::file(&rt, &mut bytes)?;
-    run(&rt, &bytes[..n])
+    let mut out = [0u32; 8192];
+    replay_tables::replay(&rt, &NAMES, |s, kind, at, t, tally| {
+        own(s, kind, at, t, &mut out, tally)
+    })
 }

@@ -13,7 +13,8 @@ use std::io;
 use std::io::Read;
 use std::rt::Files;
 
-// The place after a record that is not whole.
+// The place after a record that is not whole. No `Result`: a record whose bytes end too early is carried out and counted all the same, with
+// 0 for what is missing, and a `?` after a read would leave that out.
 pub const LOST: usize = 18446744073709551615;
 
 // The place after the last record.
