@@ -3,7 +3,6 @@ use mathlib.Core.Path.{◌≡◌, refl, sym, ap, ◌∙◌}
 use mathlib.Core.Bool.{Bool, true, false, ◌||◌, true≢false}
 use mathlib.Core.List.{List, [], ◌∷◌}
 use Prim.Native.Nat.{ℕ, suc}
-use lib.Dec.{eqb}
 use Rattle.lists.specs.Lists.{any}
 use Rattle.lists.proofs.Cases.{on, or-false-left, or-false-right}
 use Rattle.desk.specs.Desk.{Desk}
@@ -15,7 +14,8 @@ use Rattle.causes.specs.Causes.{is_change}
 use Rattle.messages.specs.Messages.{any_change}
 use Rattle.command_sheets.specs.declared.Manner.{Manner}
 use Rattle.command_sheets.specs.Commanded.{command_told, is_misused}
-use Rattle.batches.specs.Batches.{said, Ended, ended, commanded, line_end, lines_of, carried, kept, all_or_none, has_lengths, run_of}
+use Rattle.batches.specs.declared.Ending.TheVariants.{Done}
+use Rattle.batches.specs.Batches.{is_done, said, Ended, ended, commanded, line_end, lines_of, carried, kept, all_or_none, has_lengths, run_of}
 use Rattle.batch_changes.specs.Changing.{changing, has_change}
 
 -- a command that is no change leaves the desk
@@ -48,7 +48,7 @@ lines_keep : (how : Manner) (name : List ℕ) (i : ℕ) (lines : List (List ℕ)
 unfolding carried any
 lines_keep how name i [] d e h q = q
 lines_keep how name i (line ∷ lines) d e h q =
-    on (eqb e.status 0)
+    on (is_done e.status)
     (λ z.
     rw z
     (lines_keep how name (suc i) lines d (line_end how name i line e.desk e.page) (or-false-right (changing line) (any changing lines) h)
@@ -59,6 +59,6 @@ lines_keep how name i (line ∷ lines) d e h q =
 pub looks-keep : (how : Manner) (name batch : List ℕ) (d : Desk) (bytes : List ℕ) → has_change batch ≡ false → (run_of how name batch d bytes).desk ≡ d
 unfolding run_of has_change all_or_none kept
 looks-keep how name batch d bytes h =
-    let e : Ended = carried how name 1 (lines_of batch) (ended d (said 0 (page bytes 0))) in
-    let same : e.desk ≡ d = lines_keep how name 1 (lines_of batch) d (ended d (said 0 (page bytes 0))) h refl in
-    on (has_lengths batch d) (λ q. rw q (on (eqb e.status 0) (λ z. rw z same) (λ z. rw z))) (λ q. rw q)
+    let e : Ended = carried how name 1 (lines_of batch) (ended d (said Done (page bytes 0))) in
+    let same : e.desk ≡ d = lines_keep how name 1 (lines_of batch) d (ended d (said Done (page bytes 0))) h refl in
+    on (has_lengths batch d) (λ q. rw q (on (is_done e.status) (λ z. rw z same) (λ z. rw z))) (λ q. rw q)

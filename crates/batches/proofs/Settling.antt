@@ -25,6 +25,7 @@ use Rattle.misuses.specs.Misuses.{misuse_text}
 use Rattle.closed_walk.specs.Named.{closed_walk_result}
 use Rattle.command_sheets.specs.declared.Manner.{Manner}
 use Rattle.command_sheets.specs.Commanded.{list_in, command_told, is_misused}
+use Rattle.batches.specs.declared.Ending.TheVariants.{Done, Refused, Misused}
 use Rattle.batches.specs.Batches.{Said, said, walk_on, refused, settled, Ended, ended, answered, commanded, line_end}
 
 -- ---- the closed walk
@@ -49,13 +50,13 @@ refused-with p x single i m k c a ns list name ws w w₀ f l g h n e = e ∙ rw 
 module _ (how : Manner) (name : List ℕ) (i : ℕ) (c : Command) (ns ws : List ℕ) where
   pub refused-said : (a : Answer) (b e : List ℕ) (n : ℕ)
       → page e n ≡ write (refusal_text how.single i c (list_in c ns) name (walk_on (number a) ws all_waiting) (number a) (detail a)) (page b 0)
-      → said 1 (page e n) ≡ refused how name i c ns ws (result_of a b)
+      → said Refused (page e n) ≡ refused how name i c ns ws (result_of a b)
   unfolding refused
-  refused-said a b e n h = ap (said 1) h
+  refused-said a b e n h = ap (said Refused) h
 
   -- ---- done or refused
 
-  pub settled-done : (b : List ℕ) (next : ℕ) → next < length b → said 0 (page b next) ≡ settled how name i c ns ws (result_of (Ok next) b)
+  pub settled-done : (b : List ℕ) (next : ℕ) → next < length b → said Done (page b next) ≡ settled how name i c ns ws (result_of (Ok next) b)
   unfolding settled
   settled-done b next h = rw (lt-ltb next (length b) h)
 
@@ -76,9 +77,9 @@ module _ (how : Manner) (name : List ℕ) (i : ℕ) (c : Command) (ns ws : List 
 
 module _ (how : Manner) (name : List ℕ) (i : ℕ) (line : List ℕ) (c : Command) (ns : List ℕ) (d : Desk) (p : Page) (m : Bool) (f : m ≡ is_misused how i c) where
   pub line-misused : (e : List ℕ) (n : ℕ) → m ≡ true → page e n ≡ write (misuse_text how.single i c line) (page p.bytes 0)
-      → ended d (said 2 (page e n)) ≡ commanded how name i line c ns d p
+      → ended d (said Misused (page e n)) ≡ commanded how name i line c ns d p
   unfolding commanded
-  line-misused e n h q = rw (← f, h) (ap (λ (x : Page). ended d (said 2 x)) q)
+  line-misused e n h q = rw (← f, h) (ap (λ (x : Page). ended d (said Misused x)) q)
 
   pub line-settled : (a : Answer) (ts ss b : List ℕ) (x : Said) → m ≡ false → told a (desk_of ts ss) b ≡ command_told how name c ns d p
       → x ≡ settled how name i c ns ts (result_of a b) → ended (desk_of ts ss) x ≡ commanded how name i line c ns d p
@@ -90,7 +91,7 @@ module _ (how : Manner) (name : List ℕ) (i : ℕ) (line : List ℕ) (c : Comma
 
 -- ---- a line
 
-pub no_line : (how : Manner) (name : List ℕ) (i : ℕ) (d : Desk) (p : Page) (line : List ℕ) → length line ≡ 0 → ended d (said 0 p) ≡ line_end how name i line d p
+pub no_line : (how : Manner) (name : List ℕ) (i : ℕ) (d : Desk) (p : Page) (line : List ℕ) → length line ≡ 0 → ended d (said Done p) ≡ line_end how name i line d p
 unfolding line_end
 no_line how name i d p [] h = refl
 no_line how name i d p (b ∷ bs) h = absurd (omega (arith, h))

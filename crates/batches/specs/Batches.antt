@@ -1,5 +1,5 @@
 -- Commands carried out, one line after the other, all or none. Assumes nothing.
-use Rattle.std.specs.Prelude.{Bool, cond, List, [], ◌∷◌, ℕ, suc, eqb, ltb, length, take, Err}
+use Rattle.std.specs.Prelude.{Bool, true, false, cond, List, [], ◌∷◌, ℕ, suc, eqb, ltb, length, take, Err}
 use Rattle.lists.specs.Tests.{◌and◌}
 use Rattle.layout.specs.declared.Refusal.TheVariants.{NoRoom}
 use Rattle.layout.specs.Layout.{limit, size, vertex_limit}
@@ -16,14 +16,27 @@ use Rattle.misuses.specs.Misuses.{misuse_text}
 use Rattle.closed_walk.specs.Named.{closed_walk_result}
 use Rattle.command_sheets.specs.declared.Manner.{Manner}
 use Rattle.command_sheets.specs.Commanded.{list_in, command_told, is_misused}
+use Rattle.batches.specs.declared.Ending.{Ending}
+use Rattle.batches.specs.declared.Ending.TheVariants.{Done, Refused, Misused}
 
--- ---- what is said: 0 done, 1 refused, 2 misused, and the page
+-- ---- what is said: done, refused or misused, and the page
+
+abbrev pub is_done : Ending → Bool
+is_done Done = true
+is_done Refused = false
+is_done Misused = false
+
+-- the exit status of rules 19.10
+abbrev pub exit_status : Ending → ℕ
+exit_status Done = 0
+exit_status Refused = 1
+exit_status Misused = 2
 
 pub record Said : Type 0 where
-  pub status : ℕ
+  pub status : Ending
   pub page : Page
 
-abbrev pub said : ℕ → Page → Said
+abbrev pub said : Ending → Page → Said
 said status page = record { status = status; page = page }
 
 -- a message stands alone on the page
@@ -42,7 +55,7 @@ walk_named number ws = walk_on number ws all_waiting
 -- the message of a refusal; ws is the table
 unfoldable pub refused : Manner → List ℕ → ℕ → Command → List ℕ → List ℕ → Result → Said
 refused how name i c ns ws x =
-    said 1 (anew (refusal_text how.single i c (list_in c ns) name (walk_named x.number ws) x.number x.detail) x.lent)
+    said Refused (anew (refusal_text how.single i c (list_in c ns) name (walk_named x.number ws) x.number x.detail) x.lent)
 
 -- no room for the whole sheet: 11
 abbrev pub unroomed : List ℕ → Result
@@ -52,14 +65,14 @@ unroomed bytes = result_of (Err (NoRoom 0)) bytes
 unfoldable pub settled : Manner → List ℕ → ℕ → Command → List ℕ → List ℕ → Result → Said
 settled how name i c ns ws x =
     cond (eqb x.number 0)
-    (cond (ltb x.detail (length x.lent)) (said 0 (page x.lent x.detail)) (refused how name i c ns ws (unroomed x.lent)))
+    (cond (ltb x.detail (length x.lent)) (said Done (page x.lent x.detail)) (refused how name i c ns ws (unroomed x.lent)))
     (refused how name i c ns ws x)
 
 -- ---- one line, the i-th, on a desk
 
 -- what the lines so far end with
 pub record Ended : Type 0 where
-  pub status : ℕ
+  pub status : Ending
   pub desk : Desk
   pub page : Page
 
@@ -75,12 +88,12 @@ unfoldable pub commanded : Manner → List ℕ → ℕ → List ℕ → Command 
 commanded how name i line c ns d p =
     let x = command_told how name c ns d p in
     cond (is_misused how i c)
-    (ended d (said 2 (anew (misuse_text how.single i c line) p.bytes)))
+    (ended d (said Misused (anew (misuse_text how.single i c line) p.bytes)))
     (ended x.desk (settled how name i c ns x.desk.table (answered x)))
 
 -- an empty line is passed over
 unfoldable pub line_end : Manner → List ℕ → ℕ → List ℕ → Desk → Page → Ended
-line_end how name i [] d p = ended d (said 0 p)
+line_end how name i [] d p = ended d (said Done p)
 line_end how name i (b ∷ bs) d p = commanded how name i (b ∷ bs) (command_on (b ∷ bs)) (numbers_on (b ∷ bs)) d p
 
 -- ---- all lines
@@ -99,11 +112,11 @@ lines_of (b ∷ bs) = cond (eqb b line_feed) ([] ∷ lines_of bs) (before b (lin
 unfoldable pub carried : Manner → List ℕ → ℕ → List (List ℕ) → Ended → Ended
 carried how name i [] e = e
 carried how name i (line ∷ lines) e =
-    cond (eqb e.status 0) (carried how name (suc i) lines (line_end how name i line e.desk e.page)) e
+    cond (is_done e.status) (carried how name (suc i) lines (line_end how name i line e.desk e.page)) e
 
 -- all or none: unless every line is done the desk is as it was
-unfoldable pub kept : ℕ → Desk → Desk → Desk
-kept status new old = cond (eqb status 0) new old
+unfoldable pub kept : Ending → Desk → Desk → Desk
+kept status new old = cond (is_done status) new old
 
 unfoldable pub all_or_none : Desk → Ended → Ended
 all_or_none d e = ended (kept e.status e.desk d) (said e.status e.page)
@@ -117,5 +130,5 @@ has_lengths batch d =
 unfoldable pub run_of : Manner → List ℕ → List ℕ → Desk → List ℕ → Ended
 run_of how name batch d bytes =
     cond (has_lengths batch d)
-    (all_or_none d (carried how name 1 (lines_of batch) (ended d (said 0 (page bytes 0)))))
-    (ended d (said 2 (page bytes 0)))
+    (all_or_none d (carried how name 1 (lines_of batch) (ended d (said Done (page bytes 0)))))
+    (ended d (said Misused (page bytes 0)))

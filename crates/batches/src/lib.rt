@@ -8,7 +8,8 @@ ghost use Rattle.desk.specs.Desk.{desk_of};
 ghost use Rattle.wording.specs.Pages.{page, write};
 ghost use Rattle.messages.specs.Messages.{refusal_text};
 ghost use Rattle.command_sheets.specs.Commanded.{list_in};
-ghost use Rattle.batches.specs.Batches.{walk_on, refused, settled, commanded, line_end, carried, lines_of, ended, said, kept, all_or_none, has_lengths, run_of};
+ghost use Rattle.batches.specs.declared.Ending.TheVariants.{Done};
+ghost use Rattle.batches.specs.Batches.{exit_status, walk_on, refused, settled, commanded, line_end, carried, lines_of, ended, said, kept, all_or_none, has_lengths, run_of};
 ghost use Rattle.batches.specs.Runs.{said_by, ended_by};
 
 use command_sheets::Manner;
@@ -17,10 +18,31 @@ use layout::{Answer, Refusal, Reply};
 use query_sheets::first;
 use read_frames::copy_words;
 
-// What the lines so far end with: 0 all are done, 1 one was refused, 2 one was misused; and how many bytes stand on the page.
+// What the lines so far end with: all are done, one was refused, or one was misused.
+#[derive(Clone, Copy, PartialEq, Eq, Debug)]
+pub enum Ending {
+    Done,
+    Refused,
+    Misused,
+}
+
+// The exit status of rules 19.10.
+impl From<Ending> for u8 {
+    ghost from_gives = { λ e n. n ≡ exit_status e };
+
+    fn from(e: Ending) -> Self {
+        match e {
+            Ending::Done => 0,
+            Ending::Refused => 1,
+            Ending::Misused => 2,
+        }
+    }
+}
+
+// What they end with, and how many bytes stand on the page.
 #[derive(Clone, Copy)]
 pub struct Ran {
-    pub status: u8,
+    pub status: Ending,
     pub length: usize,
 }
 
@@ -73,7 +95,7 @@ fn refuse(
     let mut walk = [0u32; 256];
     let n = refuse_through(&mut walk, t, how, name, i, c, ns, answer, out);
     Ran {
-        status: 1,
+        status: Ending::Refused,
         length: n,
     }
 }
@@ -95,7 +117,7 @@ fn settle_done(
 {
     if next < out.len() {
         return Ran {
-            status: 0,
+            status: Ending::Done,
             length: next,
         };
     }
@@ -141,7 +163,7 @@ fn run_command(
     if command_sheets::is_misused(how, i, c) {
         let n = misuses::put_misuse(how.single, i, c, line, out, 0);
         return Ran {
-            status: 2,
+            status: Ending::Misused,
             length: n,
         };
     }
@@ -163,7 +185,7 @@ fn run_line(
 {
     if line.len() == 0 {
         return Ran {
-            status: 0,
+            status: Ending::Done,
             length: at,
         };
     }
@@ -185,7 +207,7 @@ fn run_lines(
     out: &mut [u8],
 ) -> Ran
     requires { length batch.now < 4294967295 }
-    ensures { ended_by result (desk_of t.new s.new) out.new ≡ carried how name.now 1 (lines_of batch.now) (ended (desk_of t.old s.old) (said 0 (page out.old 0))) }
+    ensures { ended_by result (desk_of t.new s.new) out.new ≡ carried how name.now 1 (lines_of batch.now) (ended (desk_of t.old s.old) (said Done (page out.old 0))) }
 {
     let mut at = 0;
     let mut i = 1;
@@ -194,7 +216,7 @@ fn run_lines(
     while from < batch.len() {
         let end = text_lines::line_end(batch, from);
         let ran = run_line(t, s, how, name, i, &batch[from..end], out, at);
-        if ran.status != 0 {
+        if ran.status != Ending::Done {
             return ran;
         }
         at = ran.length;
@@ -202,17 +224,17 @@ fn run_lines(
         from = text_lines::line_next(batch, from, end);
     }
     Ran {
-        status: 0,
+        status: Ending::Done,
         length: at,
     }
 }
 
 // Copies become table and states where every line is done.
-fn keep(status: u8, table: &[u32], states: &[u32], t: &mut [u32], s: &mut [u32])
+fn keep(status: Ending, table: &[u32], states: &[u32], t: &mut [u32], s: &mut [u32])
     requires { (length t.old ≡ length table.now) × (length s.old ≡ length states.now) }
     ensures { desk_of t.new s.new ≡ kept status (desk_of table.now states.now) (desk_of t.old s.old) }
 {
-    if status != 0 {
+    if status != Ending::Done {
         return;
     }
     copy_words(t, table);
@@ -231,7 +253,7 @@ fn run_on_copies(
     out: &mut [u8],
 ) -> Ran
     requires { (table.old ≡ t.old) × (states.old ≡ s.old) × (length batch.now < 4294967295) }
-    ensures { ended_by result (desk_of t.new s.new) out.new ≡ all_or_none (desk_of t.old s.old) (carried how name.now 1 (lines_of batch.now) (ended (desk_of t.old s.old) (said 0 (page out.old 0)))) }
+    ensures { ended_by result (desk_of t.new s.new) out.new ≡ all_or_none (desk_of t.old s.old) (carried how name.now 1 (lines_of batch.now) (ended (desk_of t.old s.old) (said Done (page out.old 0)))) }
 {
     let ran = run_lines(table, states, how, name, batch, out);
     keep(ran.status, table, states, t, s);
@@ -250,7 +272,7 @@ fn run_copied(
     out: &mut [u8],
 ) -> Ran
     requires { (length table.old ≡ length t.old) × (length states.old ≡ length s.old) × (length batch.now < 4294967295) }
-    ensures { ended_by result (desk_of t.new s.new) out.new ≡ all_or_none (desk_of t.old s.old) (carried how name.now 1 (lines_of batch.now) (ended (desk_of t.old s.old) (said 0 (page out.old 0)))) }
+    ensures { ended_by result (desk_of t.new s.new) out.new ≡ all_or_none (desk_of t.old s.old) (carried how name.now 1 (lines_of batch.now) (ended (desk_of t.old s.old) (said Done (page out.old 0)))) }
 {
     copy_words(table, t);
     copy_words(states, s);
@@ -282,7 +304,7 @@ pub fn run(
 {
     if !has_lengths(t, s, batch) {
         return Ran {
-            status: 2,
+            status: Ending::Misused,
             length: 0,
         };
     }

@@ -1,53 +1,48 @@
 // Commands that change the table or the states. New texts are written beside the old ones, synced and renamed over them: the table's first,
 // the states' after it. The new file is made before the old one is read, so that two runs do not change one file at a time.
 use crate::looks;
-use crate::looks::{DONE, FAILED, MISUSED, REFUSED, manner};
-use clerk_files::{PATH, TEXT, part, put_ending};
+use crate::looks::{manner, told};
+use batches::Ending;
+use clerk_files::{Failed, PATH, TEXT, part, put_ending};
 use std::fs::File;
 
 // ---- the new texts
 
 // The text is on the disk, and has its name.
-fn put_in_place(rt: &HostRuntime, file: &mut File, new: &[u8], name: &[u8], text: &[u8]) -> bool {
-    if let Err(error) = clerk_files::write_synced(file, text) {
-        clerk_files::fail(rt, new, &error);
-        return false;
-    }
-    if let Err(error) = clerk_files::rename(rt, new, name) {
-        clerk_files::fail(rt, name, &error);
-        return false;
-    }
+fn put_in_place(
+    rt: &HostRuntime,
+    file: &mut File,
+    new: &[u8],
+    name: &[u8],
+    text: &[u8],
+) -> Result<(), Failed> {
+    told(rt, new, clerk_files::write_synced(file, text))?;
+    told(rt, name, clerk_files::rename(rt, new, name))?;
     clerk_files::sync_folder(rt, name);
-    true
+    Ok(())
 }
 
 // The same where the states' text did not change, or the new one is written.
-fn put_states(rt: &HostRuntime, changed: bool, new: &[u8], name: &[u8]) -> bool {
+fn put_states(rt: &HostRuntime, changed: bool, new: &[u8], name: &[u8]) -> Result<(), Failed> {
     if !changed {
-        return true;
+        return Ok(());
     }
-    if let Err(error) = clerk_files::rename(rt, new, name) {
-        clerk_files::fail(rt, name, &error);
-        return false;
-    }
+    told(rt, name, clerk_files::rename(rt, new, name))?;
     clerk_files::sync_folder(rt, name);
-    true
+    Ok(())
 }
 
 // The states' new text, beside the old one.
-fn write_states(rt: &HostRuntime, changed: bool, new: &[u8], text: &[u8]) -> bool {
+fn write_states(rt: &HostRuntime, changed: bool, new: &[u8], text: &[u8]) -> Result<(), Failed> {
     if !changed {
-        return true;
+        return Ok(());
     }
-    let Some(mut file) = clerk_files::open_new(rt, new) else {
-        return false;
-    };
-    if let Err(error) = clerk_files::write_synced(&mut file, text) {
-        clerk_files::fail(rt, new, &error);
+    let mut file = clerk_files::open_new(rt, new)?;
+    let written = told(rt, new, clerk_files::write_synced(&mut file, text));
+    if written.is_err() {
         let _ = clerk_files::unlink(rt, new);
-        return false;
     }
-    true
+    written
 }
 
 // The table's text changed, and perhaps the states'.
@@ -60,34 +55,31 @@ fn store_text(
     desk_new: &[u8],
     text: &[u8],
     states_too: bool,
-) -> u8 {
-    if !put_in_place(rt, file, new, name, text) {
+) -> Result<(), Failed> {
+    if put_in_place(rt, file, new, name, text).is_err() {
         let _ = clerk_files::unlink(rt, new);
         if states_too {
             let _ = clerk_files::unlink(rt, desk_new);
         }
         clerk_files::say_of(rt, name, b" was not changed\n");
-        return FAILED;
+        return Err(Failed);
     }
-    if !put_states(rt, states_too, desk_new, desk) {
+    if put_states(rt, states_too, desk_new, desk).is_err() {
         clerk_files::say_of(rt, name, b" was changed; its new states are left in:\n");
         clerk_files::say_of(rt, desk_new, b"\n");
-        return FAILED;
+        return Err(Failed);
     }
-    DONE
+    Ok(())
 }
 
 // The states' text alone changed.
-fn store_states(rt: &HostRuntime, new: &[u8], desk: &[u8], desk_new: &[u8]) -> u8 {
+fn store_states(rt: &HostRuntime, new: &[u8], desk: &[u8], desk_new: &[u8]) -> Result<(), Failed> {
     let stored = put_states(rt, true, desk_new, desk);
-    if !stored {
+    if stored.is_err() {
         let _ = clerk_files::unlink(rt, desk_new);
     }
     let _ = clerk_files::unlink(rt, new);
-    if stored {
-        return DONE;
-    }
-    FAILED
+    stored
 }
 
 // Stores what is new, or nothing where nothing is.
@@ -102,11 +94,11 @@ fn store(
     text_too: bool,
     states: &[u8],
     states_too: bool,
-) -> u8 {
-    if !write_states(rt, states_too, desk_new, states) {
+) -> Result<(), Failed> {
+    if write_states(rt, states_too, desk_new, states).is_err() {
         let _ = clerk_files::unlink(rt, new);
         clerk_files::say_of(rt, name, b" was not changed\n");
-        return FAILED;
+        return Err(Failed);
     }
     if text_too {
         return store_text(rt, file, name, new, desk, desk_new, text, states_too);
@@ -115,7 +107,7 @@ fn store(
         return store_states(rt, new, desk, desk_new);
     }
     let _ = clerk_files::unlink(rt, new);
-    DONE
+    Ok(())
 }
 
 // ---- an edit of a file that is there
@@ -132,15 +124,15 @@ fn store_desk(
     states: &[u8],
     t: &[u32],
     s: &[u32],
-) -> u8 {
+) -> Result<(), Failed> {
     let mut text_now = [0u8; TEXT];
     let n = looks::written(t, &mut text_now);
     let mut states_now = [0u8; TEXT];
     let k = looks::states_written(t, s, &mut states_now);
     let text_now = part(&text_now, n);
     let states_now = part(&states_now, k);
-    let text_too = !clerk_files::same(text_now, text);
-    let states_too = !clerk_files::same(states_now, states);
+    let text_too = text_now != text;
+    let states_too = states_now != states;
     if !clerk_files::are_still(rt, name, text, desk, states) {
         let _ = clerk_files::unlink(rt, new);
         clerk_files::say_of(
@@ -148,7 +140,7 @@ fn store_desk(
             name,
             b" was changed by another program meanwhile; nothing was changed\n",
         );
-        return FAILED;
+        return Err(Failed);
     }
     store(
         rt, file, name, new, desk, desk_new, text_now, text_too, states_now, states_too,
@@ -156,12 +148,9 @@ fn store_desk(
 }
 
 // What was done is printed once it is stored.
-fn print_stored(rt: &HostRuntime, status: u8, name: &[u8], sheet: &[u8]) -> u8 {
-    if status != DONE {
-        return status;
-    }
-    let printed = looks::print(rt, DONE, sheet);
-    if printed != DONE {
+fn print_stored(rt: &HostRuntime, name: &[u8], sheet: &[u8]) -> Result<Ending, Failed> {
+    let printed = looks::print(rt, Ending::Done, sheet);
+    if printed.is_err() {
         clerk_files::say_of(rt, name, b" was changed\n");
     }
     printed
@@ -179,22 +168,22 @@ fn edit_texts(
     batch: &[u8],
     single: bool,
     plain: bool,
-) -> u8 {
+) -> Result<Ending, Failed> {
     let mut t = [0u32; layout::SIZE];
     let mut s = [0u32; layout::VERTEX_LIMIT];
-    if !looks::load(rt, name, text, desk, states, &mut t, &mut s) {
+    if looks::load(rt, name, text, desk, states, &mut t, &mut s).is_err() {
         let _ = clerk_files::unlink(rt, new);
-        return REFUSED;
+        return Ok(Ending::Refused);
     }
     let mut page = clerk_files::page();
     let how = manner(plain, single, false);
     let ran = batches::run(&mut t, &mut s, how, name, batch, &mut page);
-    if ran.status != DONE {
+    if ran.status != Ending::Done {
         let _ = clerk_files::unlink(rt, new);
         return looks::print(rt, ran.status, part(&page, ran.length));
     }
-    let stored = store_desk(rt, file, name, new, desk, desk_new, text, states, &t, &s);
-    print_stored(rt, stored, name, part(&page, ran.length))
+    store_desk(rt, file, name, new, desk, desk_new, text, states, &t, &s)?;
+    print_stored(rt, name, part(&page, ran.length))
 }
 
 fn edit_text(
@@ -208,21 +197,17 @@ fn edit_text(
     batch: &[u8],
     single: bool,
     plain: bool,
-) -> u8 {
+) -> Result<Ending, Failed> {
     let mut states = [0u8; TEXT];
-    match clerk_files::read_optional(rt, desk, &mut states) {
-        Err(error) => {
-            clerk_files::fail(rt, desk, &error);
-            let _ = clerk_files::unlink(rt, new);
-            FAILED
-        }
-        Ok(k) => {
-            let states = part(&states, k);
-            edit_texts(
-                rt, file, name, new, desk, desk_new, text, states, batch, single, plain,
-            )
-        }
-    }
+    let read = clerk_files::read_optional(rt, desk, &mut states);
+    let Ok(k) = told(rt, desk, read) else {
+        let _ = clerk_files::unlink(rt, new);
+        return Err(Failed);
+    };
+    let states = part(&states, k);
+    edit_texts(
+        rt, file, name, new, desk, desk_new, text, states, batch, single, plain,
+    )
 }
 
 fn edit_open(
@@ -235,37 +220,30 @@ fn edit_open(
     batch: &[u8],
     single: bool,
     plain: bool,
-) -> u8 {
+) -> Result<Ending, Failed> {
     let mut text = [0u8; TEXT];
-    match clerk_files::read_file(rt, name, &mut text) {
-        Err(error) => {
-            clerk_files::fail(rt, name, &error);
-            let _ = clerk_files::unlink(rt, new);
-            FAILED
-        }
-        Ok(n) => {
-            let text = part(&text, n);
-            edit_text(
-                rt, file, name, new, desk, desk_new, text, batch, single, plain,
-            )
-        }
-    }
+    let read = clerk_files::read_file(rt, name, &mut text);
+    let Ok(n) = told(rt, name, read) else {
+        let _ = clerk_files::unlink(rt, new);
+        return Err(Failed);
+    };
+    let text = part(&text, n);
+    edit_text(
+        rt, file, name, new, desk, desk_new, text, batch, single, plain,
+    )
 }
 
 // ---- a file that is made
 
 // Numbers start anew: no state of an earlier file may count, so the states go first.
-fn drop_states(rt: &HostRuntime, desk: &[u8]) -> bool {
+fn drop_states(rt: &HostRuntime, desk: &[u8]) -> Result<(), Failed> {
     if clerk_files::is_missing(rt, desk) {
-        return true;
+        return Ok(());
     }
-    if let Err(error) = clerk_files::unlink(rt, desk) {
-        clerk_files::fail(rt, desk, &error);
-        return false;
-    }
+    told(rt, desk, clerk_files::unlink(rt, desk))?;
     clerk_files::say_of(rt, desk, b" was of an earlier file, and is removed\n");
     clerk_files::sync_folder(rt, desk);
-    true
+    Ok(())
 }
 
 fn make_open(
@@ -278,22 +256,22 @@ fn make_open(
     batch: &[u8],
     single: bool,
     plain: bool,
-) -> u8 {
+) -> Result<Ending, Failed> {
     let mut t = [0u32; layout::SIZE];
     let mut s = [0u32; layout::VERTEX_LIMIT];
     let mut page = clerk_files::page();
     let how = manner(plain, single, true);
     let ran = batches::run(&mut t, &mut s, how, name, batch, &mut page);
-    if ran.status != DONE {
+    if ran.status != Ending::Done {
         let _ = clerk_files::unlink(rt, new);
         return looks::print(rt, ran.status, part(&page, ran.length));
     }
-    if !drop_states(rt, desk) {
+    if drop_states(rt, desk).is_err() {
         let _ = clerk_files::unlink(rt, new);
-        return FAILED;
+        return Err(Failed);
     }
-    let stored = store_desk(rt, file, name, new, desk, desk_new, b"", b"", &t, &s);
-    print_stored(rt, stored, name, part(&page, ran.length))
+    store_desk(rt, file, name, new, desk, desk_new, b"", b"", &t, &s)?;
+    print_stored(rt, name, part(&page, ran.length))
 }
 
 // ---- both
@@ -309,10 +287,8 @@ fn begin(
     batch: &[u8],
     single: bool,
     plain: bool,
-) -> u8 {
-    let Some(mut file) = clerk_files::open_new(rt, new) else {
-        return FAILED;
-    };
+) -> Result<Ending, Failed> {
+    let mut file = clerk_files::open_new(rt, new)?;
     carry_out(
         rt, makes, &mut file, name, new, desk, desk_new, batch, single, plain,
     )
@@ -329,14 +305,14 @@ fn carry_out(
     batch: &[u8],
     single: bool,
     plain: bool,
-) -> u8 {
+) -> Result<Ending, Failed> {
     if !makes {
         return edit_open(rt, file, name, new, desk, desk_new, batch, single, plain);
     }
     if !clerk_files::is_missing(rt, name) {
         let _ = clerk_files::unlink(rt, new);
         clerk_files::say_of(rt, name, b" is there already; nothing was changed\n");
-        return REFUSED;
+        return Ok(Ending::Refused);
     }
     make_open(rt, file, name, new, desk, desk_new, batch, single, plain)
 }
@@ -349,13 +325,13 @@ pub fn edit(
     batch: &[u8],
     single: bool,
     plain: bool,
-) -> u8 {
+) -> Result<Ending, Failed> {
     if clerk_files::is_dash(name) {
         clerk_files::say(
             rt,
             b"vaultsorrel: - is standard input, which is not written back; name a file\n",
         );
-        return MISUSED;
+        return Ok(Ending::Misused);
     }
     let mut new = [0u8; PATH];
     let a = put_ending(&mut new, name, b".new");

@@ -2,63 +2,110 @@
 // ends with the status 0 done, 1 refused, 2 misused, 3 a file could not be read or written.
 #![tactic(auto)]
 
+ghost use Rattle.std.specs.Prelude.{◌≡◌};
+ghost use Rattle.clerk.specs.declared.Status.TheVariants as variants;
+
 mod file_edits;
 mod looks;
 
-use clerk_files::arguments::Words;
-use clerk_files::{arguments, part};
-use looks::{FAILED, MISUSED};
+use batches::Ending;
+use clerk_files::{Failed, arguments, part};
+use looks::told;
 use std::process::ExitCode;
 
-// Commands for no file: help and version.
-fn without_file(rt: &HostRuntime, words: Words, name: &[u8], line: &[u8]) -> u8 {
-    let mut whole = [0u8; 8192];
-    let a = arguments::put_command(&mut whole, name);
-    let b = arguments::put_rest(&mut whole, a, words.given, line);
-    looks::answer_alone(rt, part(&whole, b), words.plain)
+// What the program ends with: what a run of lines ended with, or a file that could not be read or written.
+#[derive(Clone, Copy, PartialEq, Eq, Debug)]
+enum Status {
+    Ended(Ending),
+    Failed,
 }
 
-fn with_file(rt: &HostRuntime, words: Words, name: &[u8], line: &[u8]) -> u8 {
-    let plain = words.plain;
-    if words.given {
-        if line.len() == 0 {
-            clerk_files::say(rt, b"vaultsorrel: '' is no command; help lists them\n");
-            return MISUSED;
+impl From<Ending> for Status {
+    ghost from_gives = { λ ending s. s ≡ variants.Ended ending };
+
+    fn from(ending: Ending) -> Self {
+        Status::Ended(ending)
+    }
+}
+
+impl From<Failed> for Status {
+    ghost from_gives = { λ _ s. s ≡ variants.Failed };
+
+    fn from(_: Failed) -> Self {
+        Status::Failed
+    }
+}
+
+impl From<Status> for ExitCode {
+    fn from(status: Status) -> Self {
+        match status {
+            Status::Ended(ending) => ExitCode::from(u8::from(ending)),
+            Status::Failed => ExitCode::from(3),
         }
-        return serve(rt, name, line, true, plain);
+    }
+}
+
+// Commands for no file: help and version.
+fn without_file(
+    rt: &HostRuntime,
+    name: &[u8],
+    line: Option<&[u8]>,
+    plain: bool,
+) -> Result<Ending, Failed> {
+    let mut whole = [0u8; 8192];
+    let a = arguments::put_command(&mut whole, name);
+    let b = match line {
+        Some(rest) => arguments::put_rest(&mut whole, a, rest),
+        None => a,
+    };
+    looks::answer_alone(rt, part(&whole, b), plain)
+}
+
+fn with_file(
+    rt: &HostRuntime,
+    name: &[u8],
+    line: Option<&[u8]>,
+    plain: bool,
+) -> Result<Ending, Failed> {
+    if let Some(command) = line {
+        if command.is_empty() {
+            clerk_files::say(rt, b"vaultsorrel: '' is no command; help lists them\n");
+            return Ok(Ending::Misused);
+        }
+        return serve(rt, name, command, true, plain);
     }
     if clerk_files::is_dash(name) {
         clerk_files::say(
             rt,
             b"vaultsorrel: - is standard input, so the command must follow it\n",
         );
-        return MISUSED;
+        return Ok(Ending::Misused);
     }
     serve_batch(rt, name, plain)
 }
 
-fn serve_batch(rt: &HostRuntime, name: &[u8], plain: bool) -> u8 {
+fn serve_batch(rt: &HostRuntime, name: &[u8], plain: bool) -> Result<Ending, Failed> {
     let mut batch = arguments::batch();
-    match clerk_files::read_to_end(&mut rt.stdin(), &mut batch, 0) {
-        Err(error) => {
-            clerk_files::fail(rt, b"standard input", &error);
-            FAILED
-        }
-        Ok(n) => {
-            if n == arguments::BATCH {
-                clerk_files::say(
-                    rt,
-                    b"vaultsorrel: a batch has less than 1048576 bytes; nothing was changed\n",
-                );
-                return MISUSED;
-            }
-            serve(rt, name, part(&batch, n), false, plain)
-        }
+    let read = clerk_files::read_to_end(&mut rt.stdin(), &mut batch, 0);
+    let n = told(rt, b"standard input", read)?;
+    if n == arguments::BATCH {
+        clerk_files::say(
+            rt,
+            b"vaultsorrel: a batch has less than 1048576 bytes; nothing was changed\n",
+        );
+        return Ok(Ending::Misused);
     }
+    serve(rt, name, part(&batch, n), false, plain)
 }
 
 // One command, or a batch: a file is made, edited, or looked at.
-fn serve(rt: &HostRuntime, name: &[u8], batch: &[u8], single: bool, plain: bool) -> u8 {
+fn serve(
+    rt: &HostRuntime,
+    name: &[u8],
+    batch: &[u8],
+    single: bool,
+    plain: bool,
+) -> Result<Ending, Failed> {
     if arguments::opens_with_init(batch) {
         return file_edits::edit(rt, true, name, batch, single, plain);
     }
@@ -68,32 +115,38 @@ fn serve(rt: &HostRuntime, name: &[u8], batch: &[u8], single: bool, plain: bool)
     looks::answer(rt, name, batch, single, plain)
 }
 
-fn start(rt: &HostRuntime) -> u8 {
+fn start(rt: &HostRuntime) -> Result<Ending, Failed> {
     let mut name = [0u8; arguments::NAME];
     let mut line = arguments::batch();
-    let words = arguments::gather(rt, &mut name, &mut line);
-    let n = words.name;
-    let k = words.line;
-    if words.bad {
+    let Ok(words) = arguments::gather(rt, &mut name, &mut line) else {
         clerk_files::say(
             rt,
             b"vaultsorrel: an argument is too long, or has a line feed in it\n",
         );
-        return MISUSED;
-    }
-    if !words.named {
+        return Ok(Ending::Misused);
+    };
+    let Some(n) = words.name else {
         clerk_files::say(
             rt,
             b"vaultsorrel: no file is named; vaultsorrel help says what it takes\n",
         );
-        return MISUSED;
+        return Ok(Ending::Misused);
+    };
+    let name = part(&name, n);
+    let line = match words.line {
+        Some(k) => Some(part(&line, k)),
+        None => None,
+    };
+    if arguments::stands_alone(name) {
+        return without_file(rt, name, line, words.plain);
     }
-    if arguments::stands_alone(part(&name, n)) {
-        return without_file(rt, words, part(&name, n), part(&line, k));
-    }
-    with_file(rt, words, part(&name, n), part(&line, k))
+    with_file(rt, name, line, words.plain)
 }
 
 fn main(rt: HostRuntime) -> ExitCode {
-    ExitCode::from(start(&rt))
+    let status = match start(&rt) {
+        Ok(ending) => Status::from(ending),
+        Err(failed) => Status::from(failed),
+    };
+    ExitCode::from(status)
 }

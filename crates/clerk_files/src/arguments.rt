@@ -1,7 +1,6 @@
 // The words that the program was started with: the file, the command and its arguments, and `--plain` anywhere among them.
 ghost use Rattle.std.specs.Prelude.{◌≡◌, length};
 
-use crate::{part, same};
 use std::env::{Env, FillError};
 use wording::put_text;
 
@@ -17,62 +16,41 @@ pub fn batch() -> [u8; BATCH]
     [0; BATCH]
 }
 
-// What the words say: the name's bytes and the command line's, and whether there are any.
+// What the words say: how many bytes the file's name has, and the command line, where there are any.
 #[derive(Clone, Copy)]
 pub struct Words {
-    pub named: bool,
-    pub name: usize,
-    pub given: bool,
-    pub line: usize,
+    pub name: Option<usize>,
+    pub line: Option<usize>,
     pub plain: bool,
-    pub bad: bool,
 }
 
-fn has_feed(word: &[u8]) -> bool {
-    word.contains(&10)
-}
+// An argument is too long, or has a line feed in it.
+#[derive(Clone, Copy, PartialEq, Eq, Debug)]
+pub struct BadWord;
 
 // Whether the first word is a command that wants no file.
 pub fn stands_alone(name: &[u8]) -> bool {
-    if same(name, b"help") {
-        return true;
-    }
-    if same(name, b"version") {
-        return true;
-    }
-    if same(name, b"--help") {
-        return true;
-    }
-    if same(name, b"-h") {
-        return true;
-    }
-    same(name, b"--version")
+    matches!(
+        name,
+        b"help" | b"version" | b"--help" | b"-h" | b"--version"
+    )
 }
 
 // Whether the first line of a batch is `init`: a file is to be made.
 pub fn opens_with_init(batch: &[u8]) -> bool {
-    if same(batch, b"init") {
-        return true;
-    }
-    same(part(batch, 5), b"init\n")
+    batch == b"init".as_slice() || batch.starts_with(b"init\n")
 }
 
 // The command that such a word means.
 pub fn put_command(line: &mut [u8], name: &[u8]) -> usize {
-    if same(name, b"version") {
-        return put_text(line, 0, name);
+    match name {
+        b"version" | b"--version" => put_text(line, 0, b"version"),
+        _ => put_text(line, 0, b"help"),
     }
-    if same(name, b"--version") {
-        return put_text(line, 0, b"version");
-    }
-    put_text(line, 0, b"help")
 }
 
 // What follows it, behind a blank.
-pub fn put_rest(line: &mut [u8], at: usize, given: bool, rest: &[u8]) -> usize {
-    if !given {
-        return at;
-    }
+pub fn put_rest(line: &mut [u8], at: usize, rest: &[u8]) -> usize {
     let a = put_text(line, at, b" ");
     put_text(line, a, rest)
 }
@@ -80,44 +58,38 @@ pub fn put_rest(line: &mut [u8], at: usize, given: bool, rest: &[u8]) -> usize {
 // The file's name is the first word that is not `--plain`.
 fn take_name(words: Words, word: &[u8], name: &mut [u8]) -> Words {
     let n = put_text(name, 0, word);
-    let mut taken = words;
-    taken.named = true;
-    taken.name = n;
-    taken
+    Words {
+        name: Some(n),
+        ..words
+    }
 }
 
 // A word of the command line: the words stand there with a blank between two.
-fn take_word(words: Words, word: &[u8], line: &mut [u8]) -> Words {
-    let at = words.line;
-    let a = put_rest(line, at, words.given, word);
-    let b = put_first(line, a, words.given, word);
-    let mut taken = words;
-    taken.given = true;
-    taken.line = b;
-    taken.bad = has_feed(word) || b == line.len();
-    taken
+fn take_word(words: Words, word: &[u8], line: &mut [u8]) -> Result<Words, BadWord> {
+    let end = match words.line {
+        Some(at) => put_rest(line, at, word),
+        None => put_text(line, 0, word),
+    };
+    if word.contains(&b'\n') || end == line.len() {
+        return Err(BadWord);
+    }
+    Ok(Words {
+        line: Some(end),
+        ..words
+    })
 }
 
-fn put_first(line: &mut [u8], at: usize, given: bool, word: &[u8]) -> usize {
-    if given {
-        return at;
+fn take_any(words: Words, word: &[u8], name: &mut [u8], line: &mut [u8]) -> Result<Words, BadWord> {
+    if word == b"--plain".as_slice() {
+        return Ok(Words {
+            plain: true,
+            ..words
+        });
     }
-    put_text(line, at, word)
-}
-
-fn take_any(words: Words, word: &[u8], name: &mut [u8], line: &mut [u8]) -> Words {
-    if words.bad {
-        return words;
+    match words.name {
+        Some(_) => take_word(words, word, line),
+        None => Ok(take_name(words, word, name)),
     }
-    if same(word, b"--plain") {
-        let mut plain = words;
-        plain.plain = true;
-        return plain;
-    }
-    if words.named {
-        return take_word(words, word, line);
-    }
-    take_name(words, word, name)
 }
 
 // Argument i, if there is one; one that does not fit is bad.
@@ -127,38 +99,27 @@ fn take_argument(
     words: Words,
     name: &mut [u8],
     line: &mut [u8],
-) -> Option<Words> {
+) -> Result<Option<Words>, BadWord> {
     let mut word = [0u8; NAME];
     match env.arg(i, &mut word) {
-        Ok(n) => Some(take_any(words, &word[..n], name, line)),
-        Err(FillError::NotPresent) => None,
-        Err(FillError::TooLong) => {
-            let mut bad = words;
-            bad.bad = true;
-            Some(bad)
-        }
-    }
-}
-
-fn no_words() -> Words {
-    Words {
-        named: false,
-        name: 0,
-        given: false,
-        line: 0,
-        plain: false,
-        bad: false,
+        Ok(n) => Ok(Some(take_any(words, &word[..n], name, line)?)),
+        Err(FillError::NotPresent) => Ok(None),
+        Err(FillError::TooLong) => Err(BadWord),
     }
 }
 
 // All of them, from the first behind the program's own name on.
-pub fn gather(env: &impl Env, name: &mut [u8], line: &mut [u8]) -> Words {
-    let mut words = no_words();
+pub fn gather(env: &impl Env, name: &mut [u8], line: &mut [u8]) -> Result<Words, BadWord> {
+    let mut words = Words {
+        name: None,
+        line: None,
+        plain: false,
+    };
     for i in 1..usize::MAX {
-        match take_argument(env, i, words, name, line) {
+        match take_argument(env, i, words, name, line)? {
             Some(more) => words = more,
             None => break,
         }
     }
-    words
+    Ok(words)
 }

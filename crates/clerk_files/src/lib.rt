@@ -69,6 +69,10 @@ pub fn fail(rt: &HostRuntime, name: &[u8], error: &io::Error) {
     say(rt, part(&why, e));
 }
 
+// A file, standard input or standard output could not be read or written, or is not as it has to be; a message says so.
+#[derive(Clone, Copy, PartialEq, Eq, Debug)]
+pub struct Failed;
+
 // A line about a file.
 pub fn say_of(rt: &HostRuntime, name: &[u8], text: &[u8]) {
     say(rt, b"vaultsorrel: ");
@@ -157,12 +161,8 @@ pub fn is_missing(rt: &HostRuntime, name: &[u8]) -> bool {
     }
 }
 
-pub fn same(a: &[u8], b: &[u8]) -> bool {
-    a == b
-}
-
 pub fn is_dash(name: &[u8]) -> bool {
-    same(name, b"-")
+    name == b"-".as_slice()
 }
 
 // Whether the file still has these bytes; one that may be missing has none.
@@ -170,15 +170,12 @@ pub fn is_still(rt: &HostRuntime, name: &[u8], text: &[u8]) -> bool {
     let mut bytes = [0u8; TEXT];
     match read_optional(rt, name, &mut bytes) {
         Err(_) => false,
-        Ok(n) => same(part(&bytes, n), text),
+        Ok(n) => part(&bytes, n) == text,
     }
 }
 
 pub fn are_still(rt: &HostRuntime, name: &[u8], text: &[u8], desk: &[u8], states: &[u8]) -> bool {
-    if !is_still(rt, name, text) {
-        return false;
-    }
-    is_still(rt, desk, states)
+    is_still(rt, name, text) && is_still(rt, desk, states)
 }
 
 fn create_new(rt: &HostRuntime, new: &[u8]) -> io::Result<File> {
@@ -189,9 +186,9 @@ fn create_new(rt: &HostRuntime, new: &[u8]) -> io::Result<File> {
 }
 
 // Makes a file that is not there yet; a leftover is named, and kept.
-pub fn open_new(rt: &HostRuntime, new: &[u8]) -> Option<File> {
+pub fn open_new(rt: &HostRuntime, new: &[u8]) -> Result<File, Failed> {
     match create_new(rt, new) {
-        Ok(file) => Some(file),
+        Ok(file) => Ok(file),
         Err(error) => {
             if error.kind() == ErrorKind::AlreadyExists {
                 say_of(
@@ -199,10 +196,10 @@ pub fn open_new(rt: &HostRuntime, new: &[u8]) -> Option<File> {
                     new,
                     b" is there: another run is at work, or was ended; nothing was changed\n",
                 );
-                return None;
+                return Err(Failed);
             }
             fail(rt, new, &error);
-            None
+            Err(Failed)
         }
     }
 }

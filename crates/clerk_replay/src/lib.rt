@@ -5,23 +5,6 @@ use clerk_files::part;
 use command_sheets::Manner;
 use std::io;
 
-// A line with this before it asks for numbers only.
-const PLAIN: usize = 8;
-
-fn is_plain(line: &[u8]) -> bool {
-    clerk_files::same(part(line, PLAIN), b"--plain ")
-}
-
-// The command without it.
-fn command_of(line: &[u8], plain: bool) -> &[u8] {
-    if plain {
-        if PLAIN <= line.len() {
-            return &line[PLAIN..];
-        }
-    }
-    line
-}
-
 fn print_opening(rt: &impl Print, plain: bool) -> io::Result<()> {
     if plain {
         return print!(rt; "$ vaultsorrel --plain day.frames ");
@@ -29,7 +12,7 @@ fn print_opening(rt: &impl Print, plain: bool) -> io::Result<()> {
     print!(rt; "$ vaultsorrel day.frames ")
 }
 
-// One command, and what it says.
+// One command, and what it says; with `--plain ` before it the line asks for numbers only.
 fn replay_line(
     rt: &impl Print,
     t: &mut [u32],
@@ -37,8 +20,10 @@ fn replay_line(
     line: &[u8],
     makes: bool,
 ) -> io::Result<()> {
-    let plain = is_plain(line);
-    let command = command_of(line, plain);
+    let (plain, command) = match line.strip_prefix(b"--plain ") {
+        Some(command) => (true, command),
+        None => (false, line),
+    };
     print_opening(rt, plain)?;
     rt.write_all(command)?;
     println!(rt;)?;
