@@ -1,15 +1,39 @@
--- A list stored over the words from a place on. Assumes nothing.
-use mathlib.Core.Path.{◌≡◌, sym, ap, ap₂, ◌∙◌}
+-- A list stored over the words from a place on, also word by word. Assumes nothing.
+use mathlib.Core.Path.{◌≡◌, refl, sym, ap, ap₂, ◌∙◌}
 use mathlib.Core.List.{List, [], ◌∷◌, append-nil}
 use borrow.Rule.Slice.PartMut.{put_mid}
 use Prim.Native.Nat.{ℕ, ◌+◌, ◌-◌, ◌≤◌, ◌<◌}
+use native.Mathlib.Numerals.{add-one}
 use native.Mathlib.Omega.{arith}
-use lib.ListN.{length, set, replicate, length-replicate, drop_of_length-le}
+use lib.ListN.{length, get_or, set, take, replicate, length-set, length-replicate, drop_of_length-le}
+use lib.Seq.{take-suc, take_all, length-take-le}
 use Rattle.lists.specs.Lists.{over}
 use Rattle.lists.specs.Inner.{over_at}
 use Rattle.layout.specs.Layout.{limit, hyperedge_limit, size, hyperedge_word}
 use Rattle.edits.specs.Records.{member_words}
-use Rattle.lists.proofs.OverAt.{set-over-at, over-at-join}
+use Rattle.lists.proofs.OverAt.{over-at-none, set-over-at, over-at-join, over-at-more}
+
+-- after i turns the first i words of xs are stored from a on
+pub record Stored (a : ℕ) (xs ws : List ℕ) (i : ℕ) (s : List ℕ) : Type 0 where
+  pub is : s ≡ over_at a (take i xs) ws
+  pub same : length s ≡ length ws
+
+pub stored-none : (a : ℕ) (xs ws : List ℕ) → Stored a xs ws 0 ws
+stored-none a xs ws = record { is = sym (over-at-none a ws); same = refl }
+
+module _ {a : ℕ} {xs ws : List ℕ} {i : ℕ} {s : List ℕ} (st : Stored a xs ws i s) where
+  pub stored_more : i < length xs → a + length xs ≤ length ws → Stored a xs ws (i + 1) (set s (a + i) (get_or xs i 0))
+  stored_more h l =
+      let e : length (take i xs) ≡ i = length-take-le i xs (omega arith) in
+      record {
+        is = ap₂ (λ (r : List ℕ) (k : ℕ). set r (a + k) (get_or xs i 0)) st.is (sym e)
+            ∙ over-at-more a (take i xs) ws (omega arith) (get_or xs i 0) (omega arith)
+            ∙ ap (λ (r : List ℕ). over_at a r ws) (sym (take-suc xs i 0 h) ∙ ap (λ (k : ℕ). take k xs) (sym (add-one i)));
+        same = length-set s (a + i) (get_or xs i 0) ∙ st.same;
+      }
+
+  pub stored-end : length xs ≤ i → s ≡ over_at a xs ws
+  stored-end h = st.is ∙ ap (λ (r : List ℕ). over_at a r ws) (take_all i xs h)
 
 -- the part of n words from a on is xs
 pub part-stored : (a n : ℕ) (xs ws part : List ℕ) → n ≡ length xs → part ≡ xs → put_mid a (a + n - a) ws part ≡ over_at a xs ws

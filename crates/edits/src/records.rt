@@ -14,7 +14,9 @@ pub fn store(t: &mut [u32], a: usize, list: &[u32])
     requires { a + length list.now ≤ length t.old }
     ensures { t.new ≡ over_at a list.now t.old }
 {
-    t[a..a + list.len()].copy_from_slice(list);
+    for i in 0..list.len() {
+        t[a + i] = list[i];
+    }
 }
 
 // Stores n words of 0 from word a on.

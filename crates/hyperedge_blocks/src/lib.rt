@@ -45,7 +45,9 @@ fn copy(xs: &[u32], out: &mut [u32])
     requires { length xs.now ≤ length out.old }
     ensures { out.new ≡ over xs.now out.old }
 {
-    out[..xs.len()].copy_from_slice(xs);
+    for i in 0..xs.len() {
+        out[i] = xs[i];
+    }
 }
 
 // The length and the members of a record: a part of the table, where they lie.
